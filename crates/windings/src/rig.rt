@@ -36,7 +36,10 @@ fn words(dac: &Dac) -> (u16, u16)
 }
 
 impl Rig {
-    pub fn new(settings: Settings, wire: Wire) -> Rig {
+    // The PWM stage is wired alike for both gates.
+    pub fn new(settings: Settings, wire: Wire) -> Rig
+        ensures { λ r. ⌜ (r .settings ≡ settings) × (r .pwm .one ≡ wire) × (r .pwm .two ≡ wire) ⌝ }
+    {
         let pwm = Wiring::new(Pwm::new(), wire, wire);
         Rig {
             settings,

@@ -1,0 +1,9 @@
+pub mod Profile
+pub mod Clock
+pub mod Events
+pub mod Gates
+pub mod Sound
+pub mod Cycles
+pub mod Orders
+pub mod Queries
+pub mod Laws
