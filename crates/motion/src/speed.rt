@@ -1,5 +1,5 @@
 ghost use mathlib.Core.Path.{_≡_};
-ghost use Prim.Native.Nat.{_+_, _-_, _^_, _<_, _≤_};
+ghost use Prim.Native.Nat.{_+_, _^_, _<_, _≤_};
 ghost use Rattle.motion.specs.Reach.{reach};
 ghost use Rattle.motion.specs.Speed.{largest, Largest};
 use crate::reach::fits;

@@ -2,7 +2,7 @@ use mathlib.Core.Path.{_≡_, _∙_}
 use native.Mathlib.Omega.{arith}
 use mir.Syntax.{w32}
 use Rattle.std.proofs.shelf.Signed.{ints, toZ-ofZ}
-use Rattle.motion.specs.Course.{along, cruise, toward}
+use Rattle.motion.specs.Course.{cruise}
 use Rattle.motion.proofs.Velocities.{cruise-size, cruise-step}
 use Rattle.motion.proofs.course.cruise.Needs as need
 
