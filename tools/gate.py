@@ -164,13 +164,14 @@ def sent(destination, velocity, acceleration, power=0):
 
 def move(destination, velocity, acceleration, power=16384):
     gate = sent(destination, velocity, acceleration, power)
-    print("cycle |   velocity     target | phase A  phase B | ")
+    print("cycle |    velocity       target | phase A  phase B | gate")
     for _ in range(10000):
         a, b = gate.cycle()
-        state = "complete" if "complete" in gate.events else "rest" if gate.at_rest() else "moving"
-        print(f"{gate.clock:>5} | {gate.V:>10} {gate.target():>10} | {a:>7}  {b:>7} | {state}")
-        if "complete" in gate.events:
+        state = "moving" if not gate.at_rest() else "motion complete" if "complete" in gate.events else "at rest"
+        print(f"{gate.clock:>5} | {gate.V:>11}  {gate.target():>11} | {a:>7}  {b:>7} | {state}")
+        if gate.at_rest():
             return
+    print("still moving after 10000 cycles")
 
 
 def mixed(sum_, v):

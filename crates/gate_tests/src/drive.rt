@@ -70,7 +70,9 @@ pub fn travelled(mut gate: Gate, cycles: u32) -> Travelled
     let mut complete: u32 = 0;
     for _turn in 0..cycles {
         let _ = gate.cycle(IDLE);
-        checksum = checksum.wrapping_mul(31).wrapping_add(gate.motion.velocity.cast_unsigned());
+        checksum = checksum
+            .wrapping_mul(31)
+            .wrapping_add(gate.motion.velocity.cast_unsigned());
         if gate.events.complete && complete == 0 {
             complete = gate.clock.time();
         }
