@@ -55,7 +55,7 @@ pub fn follows(mut gate: Gate, rows: &[(i32, i64, u16)]) -> Result<(), Fail>
 
 // What is left of a long move.
 #[derive(Clone, Copy, Debug, PartialEq)]
-pub struct Travelled {
+pub struct Summary {
     // of all velocities, in order
     pub checksum: u32,
     // the cycle in which motion complete was set
@@ -63,7 +63,7 @@ pub struct Travelled {
     pub end: (i32, i64, u16),
 }
 
-pub fn travelled(mut gate: Gate, cycles: u32) -> Travelled
+pub fn travel(mut gate: Gate, cycles: u32) -> Summary
     requires { ⌜ Sound gate ⌝ }
 {
     let mut checksum: u32 = 0;
@@ -77,7 +77,7 @@ pub fn travelled(mut gate: Gate, cycles: u32) -> Travelled
             complete = gate.clock.time();
         }
     }
-    Travelled {
+    Summary {
         checksum,
         complete,
         end: seen(&gate),

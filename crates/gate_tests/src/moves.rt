@@ -1,9 +1,9 @@
-use crate::drive::Travelled;
-use crate::drive::TravelledDebug;
-use crate::drive::TravelledPartialEq;
+use crate::drive::Summary;
+use crate::drive::SummaryDebug;
+use crate::drive::SummaryPartialEq;
 use crate::drive::follows;
 use crate::drive::sent;
-use crate::drive::travelled;
+use crate::drive::travel;
 use gate::orders::LongOrder;
 use gate::orders::Order;
 use gate::profile::ProfileMode;
@@ -64,8 +64,8 @@ fn wrap_around() -> Result<(), Fail> {
 fn long_moves() -> Result<(), Fail> {
     let gate = sent(ProfileMode::Trapezoidal, -12_000, 3_000_000, 40_001);
     check_eq(
-        travelled(gate, 400),
-        Travelled {
+        travel(gate, 400),
+        Summary {
             checksum: 2_068_394_006,
             complete: 338,
             end: (0, -786_432_000, 1),
@@ -73,8 +73,8 @@ fn long_moves() -> Result<(), Fail> {
     )?;
     let gate = sent(ProfileMode::Trapezoidal, 2_000, 1_073_741_823, -30_001);
     check_eq(
-        travelled(gate, 400),
-        Travelled {
+        travel(gate, 400),
+        Summary {
             checksum: 1_346_359_232,
             complete: 133,
             end: (0, 131_072_000, 1),
