@@ -1,7 +1,7 @@
 #!/usr/bin/env python3
-"""What `console KIND POWER` must print, worked out from docs/ with the sine of the C library.
+"""What `console windings KIND POWER` must print, worked out from docs/ with the sine of the C library.
 
-    python3 tools/windings.py two-phase 16384 > crates/console/stdout
+    python3 tools/windings.py two-phase 16384
 """
 import math
 import sys
