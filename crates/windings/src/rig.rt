@@ -69,3 +69,36 @@ impl Rig {
         }
     }
 }
+
+#[cfg(test)]
+mod tests {
+    use super::*;
+    use crate::row::RowDisplay;
+    use std::test::*;
+    use wave::phases::MotorKind;
+
+    const CROSSED: Wire = Wire {
+        exchanged: true,
+        negated: true,
+    };
+
+    // Lines that tools/windings.py prints.
+    #[test]
+    fn lines(rt: LibcRuntime) -> Result<(), Fail> {
+        let heap = rt.alloc();
+        let (kind, power) = (MotorKind::TwoPhase, 16_384);
+        let mut two = Rig::new(Settings { kind, power }, CROSSED);
+        let line = two.step(129).to_string(heap)?;
+        check_eq(
+            line.as_str(),
+            "129 |    -402   -16378 |   -402  -16378  32366 16390 |   -384  -16256  -127 +3",
+        )?;
+        let (kind, power) = (MotorKind::ThreePhase, 32_767);
+        let mut three = Rig::new(Settings { kind, power }, CROSSED);
+        let line = three.step(199).to_string(heap)?;
+        check_eq(
+            line.as_str(),
+            "199 |  -32285    20787 | -32285   20787    483 53555 | -32256   20736  +162 +252",
+        )
+    }
+}
