@@ -1,8 +1,10 @@
 ghost use mathlib.Core.Path.{_≡_};
+ghost use mathlib.Core.Bool.{true, false};
 ghost use lib.IntN.{pos, natAbs, _*ℤ_};
 ghost use Prim.Native.Nat.{_^_, _<_, _≤_};
 ghost use Rattle.motion.specs.Course.{Within};
-ghost use Rattle.gate.specs.Gates.{fresh, latched, stopped, placed, erred, with-motion, with-destination, with-velocity, with-acceleration, with-mode, with-power};
+ghost use Rattle.gate.specs.Gates.{fresh, latched, stopped, placed, erred, with-events, with-slip, with-motion, with-destination, with-velocity, with-acceleration, with-mode, with-power};
+ghost use Rattle.gate.specs.Events.{kept};
 ghost use Rattle.gate.specs.Sound.{Sound};
 use crate::breakpoint::BreakMode;
 use crate::breakpoint::Breakpoint;
@@ -101,7 +103,7 @@ impl Gate {
         self.motion.halted = self.motion.halted && (self.events.positive || self.events.negative);
     }
 
-    pub fn load_destination(&mut self, destination: i32)
+    pub(crate) fn load_destination(&mut self, destination: i32)
         requires { ⌜ Within (2 ^ 30) destination ⌝ }
         ensures is { λ _. ⌜ now (self .exit) ≡ with-destination destination (now (self .entry)) ⌝ }
         ensures sound { λ _. ⌜ (Sound (now (self .entry)) → Sound (now (self .exit))) ⌝ }
@@ -109,7 +111,7 @@ impl Gate {
         self.buffered.destination = destination;
     }
 
-    pub fn load_velocity(&mut self, velocity: u32)
+    pub(crate) fn load_velocity(&mut self, velocity: u32)
         requires { ⌜ velocity < 2 ^ 30 ⌝ }
         ensures is { λ _. ⌜ now (self .exit) ≡ with-velocity velocity (now (self .entry)) ⌝ }
         ensures sound { λ _. ⌜ (Sound (now (self .entry)) → Sound (now (self .exit))) ⌝ }
@@ -117,7 +119,7 @@ impl Gate {
         self.buffered.velocity = velocity;
     }
 
-    pub fn load_acceleration(&mut self, acceleration: i32)
+    pub(crate) fn load_acceleration(&mut self, acceleration: i32)
         requires { ⌜ Within (2 ^ 30) acceleration ⌝ ∗ ⌜ 1 ≤ natAbs acceleration ⌝ }
         ensures is { λ _. ⌜ now (self .exit) ≡ with-acceleration acceleration (now (self .entry)) ⌝ }
         ensures sound { λ _. ⌜ (Sound (now (self .entry)) → Sound (now (self .exit))) ⌝ }
@@ -125,14 +127,14 @@ impl Gate {
         self.buffered.acceleration = acceleration;
     }
 
-    pub fn load_mode(&mut self, mode: ProfileMode)
+    pub(crate) fn load_mode(&mut self, mode: ProfileMode)
         ensures is { λ _. ⌜ now (self .exit) ≡ with-mode mode (now (self .entry)) ⌝ }
         ensures sound { λ _. ⌜ (Sound (now (self .entry)) → Sound (now (self .exit))) ⌝ }
     {
         self.buffered.mode = mode;
     }
 
-    pub fn load_power(&mut self, power: u16)
+    pub(crate) fn load_power(&mut self, power: u16)
         requires { ⌜ power ≤ 32767 ⌝ }
         ensures is { λ _. ⌜ now (self .exit) ≡ with-power power (now (self .entry)) ⌝ }
         ensures sound { λ _. ⌜ (Sound (now (self .entry)) → Sound (now (self .exit))) ⌝ }
@@ -141,7 +143,7 @@ impl Gate {
     }
 
     // Stops the gate where it is, until a latch.
-    pub fn halt(&mut self)
+    pub(crate) fn halt(&mut self)
         ensures is { λ _. ⌜ now (self .exit) ≡ with-motion (now (self .entry)) (stopped (now (self .entry) .motion)) ⌝ }
         ensures sound { λ _. ⌜ (Sound (now (self .entry)) → Sound (now (self .exit))) ⌝ }
     {
@@ -150,7 +152,7 @@ impl Gate {
     }
 
     // Sets target and actual position, and halts the gate there.
-    pub fn place(&mut self, position: i32)
+    pub(crate) fn place(&mut self, position: i32)
         requires { ⌜ Within (2 ^ 30) position ⌝ }
         ensures is { λ _. ⌜ now (self .exit) ≡ placed position (now (self .entry)) ⌝ }
         ensures sound { λ _. ⌜ (Sound (now (self .entry)) → Sound (now (self .exit))) ⌝ }
@@ -161,10 +163,27 @@ impl Gate {
     }
 
     // Notes a command that was refused for its value.
-    pub fn err(&mut self)
+    pub(crate) fn err(&mut self)
         ensures is { λ _. ⌜ now (self .exit) ≡ erred (now (self .entry)) ⌝ }
         ensures sound { λ _. ⌜ (Sound (now (self .entry)) → Sound (now (self .exit))) ⌝ }
     {
         self.events.error = true;
+    }
+
+    // Hands out the gate's service slip.
+    pub fn lend(&mut self)
+        ensures is { λ _. ⌜ now (self .exit) ≡ with-slip (now (self .entry)) true ⌝ }
+        ensures sound { λ _. ⌜ (Sound (now (self .entry)) → Sound (now (self .exit))) ⌝ }
+    {
+        self.slip = true;
+    }
+
+    // Takes the slip back, and clears the event bits whose places hold 0 in the word.
+    pub fn close(&mut self, word: u16)
+        ensures is { λ _. ⌜ now (self .exit) ≡ with-slip (with-events (now (self .entry)) (kept word (now (self .entry) .events))) false ⌝ }
+        ensures sound { λ _. ⌜ (Sound (now (self .entry)) → Sound (now (self .exit))) ⌝ }
+    {
+        self.events.keep(word);
+        self.slip = false;
     }
 }

@@ -2,6 +2,7 @@
 pub mod breakpoint;
 pub mod clock;
 pub mod cycle;
+pub mod equal;
 pub mod events;
 pub mod gate;
 pub mod inputs;
