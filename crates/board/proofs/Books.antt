@@ -12,11 +12,11 @@ use Rattle.gate.specs.declared.orders.WordOrder.the-variants as word
 use Rattle.gate.specs.declared.orders.LongOrder.{LongOrder}
 use Rattle.gate.specs.declared.orders.LongOrder.the-variants as long
 use Rattle.gate.specs.declared.profile.Profile.{Profile}
-use Rattle.gate.specs.Cycles.{clocked, encoded, tripped, meets, marked, met, cycled}
+use Rattle.gate.specs.Cycles.{clocked, encoded, tripped, meets, marked, cycled}
 use Rattle.gate.specs.Gates.{erred, latched}
 use Rattle.gate.specs.Orders.{ran, ran-word, ran-long, word-run, word-fits, long-run, long-fits}
 use Rattle.board.specs.Own.{Own, restart, tick, told, told-word, told-long, asked, viewed, taken, closed, joined, alone}
-use Rattle.board.specs.Isolation.{Book, new-book, book, book-order, book-long, copied, latches}
+use Rattle.board.specs.Isolation.{Book, book, book-order, book-long, copied, latches}
 
 pub record Written (buffered active : Profile) (b : Book) : Type 0 where
   pub loaded : buffered ≡ b .loaded

@@ -1,25 +1,22 @@
 -- A gate of a board is its own list, replayed.
 use mathlib.Core.Path.{_≡_, refl, sym, _∙_, ap}
 use mathlib.Core.List.{List, [], _∷_, _++_, map}
-use mathlib.Core.Bool.{Bool, true, false, cond, _&&_, _||_}
-use Prim.Native.Nat.{ℕ, zero, suc, _<_}
+use mathlib.Core.Bool.{Bool, true, false, cond}
+use Prim.Native.Nat.{ℕ, _<_}
 use native.Mathlib.Omega.{arith}
 use lib.Dec.{eqb, ltb}
-use lib.IntN.{ℤ, pos}
+use lib.IntN.{pos}
 use borrow.Author.Tests.{eqb-true}
-use Rattle.std.proofs.shelf.Ways.{tells}
-use Rattle.stage.specs.Pairs.{Pair, Pairs, dark}
+use Rattle.stage.specs.Pairs.{Pair, dark}
 use Rattle.gate.specs.declared.gate.Gate.{Gate}
-use Rattle.gate.specs.declared.inputs.Inputs.{Inputs}
-use Rattle.gate.specs.declared.orders.Order.{Order}
-use Rattle.gate.specs.declared.orders.Order.the-variants.{Mode, Stop, Update, Auto, Break, Motor}
+use Rattle.gate.specs.declared.orders.Order.the-variants.{Update}
 use Rattle.gate.specs.declared.orders.WordOrder.{WordOrder}
 use Rattle.gate.specs.declared.orders.WordOrder.the-variants as word
 use Rattle.gate.specs.declared.orders.LongOrder.{LongOrder}
 use Rattle.gate.specs.declared.orders.LongOrder.the-variants as long
-use Rattle.gate.specs.Cycles.{clocked, encoded, tripped, meets, marked, met, cycled, shows}
-use Rattle.gate.specs.Gates.{fresh, latched}
-use Rattle.gate.specs.Orders.{ran, ran-word, ran-long, word-run, word-fits, long-run, long-fits}
+use Rattle.gate.specs.Cycles.{shows}
+use Rattle.gate.specs.Gates.{fresh}
+use Rattle.gate.specs.Orders.{word-fits, long-fits}
 use Rattle.std.specs.declared.option.Option.{Option}
 use Rattle.std.specs.declared.option.Option.the-variants.{Some, None}
 use Rattle.board.specs.declared.command.Command.{Command}
@@ -31,7 +28,7 @@ use Rattle.board.specs.Commands.{decoded}
 use Rattle.board.specs.Own.{ran-or-not, Own, restart, tick, told, told-word, told-long, asked, viewed, taken, closed, Answer, joined, step, reply, replay, alone}
 use Rattle.board.specs.Acts.{spoken, counts, whose, lendable, enters-if, starts, on-command, on-write, on-read, State, gate-of, Act, act-command, act-write, act-read, act-cycle, act-reset, act-take, act-close, Move, held, opens, enters, updates, unfit, gives, ticks, restarts, move, moved, entries}
 use Rattle.board.specs.Runs.{state-after, given, given-after}
-use Rattle.board.specs.Isolation.{own, answer-to, heard, Book, book, book-order, book-long, copied, latches, shown-of}
+use Rattle.board.specs.Isolation.{own, answer-to, heard, shown-of}
 use Rattle.board.proofs.Tables.{by-two}
 
 replay-++ : (es ds : List Own) (g : Gate) → replay (es ++ ds) g ≡ replay es (replay ds g)

@@ -2,17 +2,15 @@
 use mathlib.Core.Path.{_≡_, refl, sym, _∙_, ap}
 use mathlib.Core.Bool.{Bool, true, false}
 use Prim.Native.Nat.{ℕ}
-use native.Mathlib.Omega.{arith}
-use lib.IntN.{ℤ, pos}
+use lib.IntN.{ℤ}
 use Rattle.stage.specs.declared.Stage.{Ghosts}
-use Rattle.stage.specs.Cut.{cut}
 use Rattle.stage.specs.Pairs.{Pair, Pairs, dark, shown}
 use Rattle.stage.proofs.Cuts.{cut-zero}
 use Rattle.gate.specs.Cycles.{shows}
 use Rattle.board.specs.declared.refusal.Refusal.{Refusal}
 use Rattle.board.specs.declared.refusal.Refusal.the-variants.{OutOfRange}
 use Rattle.board.specs.declared.board.Board.{Board}
-use Rattle.board.specs.Own.{Own, restart, tick, told, told-word, told-long, asked, viewed, taken, closed, Answer, done, refused, ran-or-not}
+use Rattle.board.specs.Own.{restart, tick, told, told-word, told-long, asked, viewed, taken, closed, Answer, refused, ran-or-not}
 use Rattle.board.specs.Acts.{State, state-of, Act, act-command, act-write, act-read, act-cycle, act-reset, act-take, act-close, Move, held, opens, enters, updates, unfit, gives, ticks, restarts, move, moved, says, spoken, after, answer}
 use Rattle.board.specs.Runs.{state-after, given, given-after, cuts, Did, pairs-after}
 

@@ -16,8 +16,7 @@ use Rattle.board.specs.declared.refusal.Refusal.the-variants.{NoSlip}
 use Rattle.board.specs.declared.table.Table.{Table}
 use Rattle.board.specs.Acts.{blank, state-of, gate-of, lendable, enters, enters-if, held, moved, says, after, answer as answered, act-cycle, act-take, act-close, current-by, port-by, heard-range, spoken, Fit}
 use Rattle.board.specs.Own.{Own, taken, closed, done, slipped, step, replay, ran-or-not}
-use Rattle.std.specs.declared.option.Option.{Option}
-use Rattle.std.specs.declared.option.Option.the-variants.{Some, None}
+use Rattle.std.specs.declared.option.Option.the-variants.{Some}
 
 -- what holds of both gates holds of each
 pub by-two : (P : ℕ → Type 0) → P 0 → P 1 → (k : ℕ) → k < 2 → P k

@@ -1,8 +1,7 @@
 -- What a comparison of one gate on two boards answers.
 use mathlib.Core.Path.{_≡_}
-use mathlib.Core.Bool.{Bool, true}
-use Prim.Native.Nat.{ℕ, _-_}
-use lib.IntN.{ℤ, natAbs, _-ℤ_}
+use Prim.Native.Nat.{ℕ}
+use lib.IntN.{natAbs, _-ℤ_}
 use Rattle.std.specs.Orderings.{Decides}
 use Rattle.stage.specs.declared.Stage.{Ghosts}
 use Rattle.board.specs.declared.board.Board.{Board}

@@ -2,14 +2,13 @@
 use mathlib.Core.List.{List, [], _∷_}
 use mathlib.Core.Bool.{Bool, true, false, cond}
 use Prim.Native.Nat.{ℕ, _+_, _*_, _/_, _%_}
-use lib.IntN.{ℤ, pos}
 use Rattle.gate.specs.declared.gate.Gate.{Gate}
 use Rattle.gate.specs.declared.inputs.Inputs.{Inputs}
 use Rattle.gate.specs.declared.orders.Order.{Order}
 use Rattle.gate.specs.declared.orders.WordOrder.{WordOrder}
 use Rattle.gate.specs.declared.orders.LongOrder.{LongOrder}
 use Rattle.gate.specs.declared.queries.Query.{Query}
-use Rattle.gate.specs.Cycles.{cycled, shows}
+use Rattle.gate.specs.Cycles.{cycled}
 use Rattle.gate.specs.Events.{kept}
 use Rattle.gate.specs.Gates.{fresh, with-events, with-slip}
 use Rattle.gate.specs.Orders.{ran, ran-word, ran-long, word-fits, long-fits}

@@ -2,13 +2,12 @@
 use mathlib.Core.Path.{_≡_}
 use mathlib.Core.List.{List, [], _∷_}
 use mathlib.Core.Bool.{false}
-use Prim.Native.Nat.{ℕ, _+_}
-use lib.IntN.{ℤ, pos}
+use Prim.Native.Nat.{ℕ}
 use Rattle.std.specs.declared.result.Result.{Result}
 use Rattle.std.specs.declared.result.Result.the-variants.{Ok, Err}
 use Rattle.stage.specs.declared.Stage.{Ghosts}
 use Rattle.stage.specs.Cut.{cut}
-use Rattle.stage.specs.Pairs.{Pair, Pairs, dark}
+use Rattle.stage.specs.Pairs.{Pairs, dark}
 use Rattle.gate.specs.Cycles.{shows}
 use Rattle.gate.specs.Gates.{fresh}
 use Rattle.board.specs.declared.refusal.Refusal.{Refusal}

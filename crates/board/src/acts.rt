@@ -1,7 +1,7 @@
 ghost use mathlib.Core.Path.{_≡_};
 ghost use Prim.Native.Nat.{_<_};
 ghost use Rattle.gate.specs.Cycles.{shows};
-ghost use Rattle.board.specs.Acts.{state-of, gate-of, after, answer, starts, enters-if, whose, moved, says, updates, heard-done, heard-word, heard-gate, act-command, act-write, act-read, act-cycle, act-reset, act-take, act-close, Fit};
+ghost use Rattle.board.specs.Acts.{state-of, after, answer, starts, enters-if, whose, moved, says, updates, heard-done, heard-word, heard-gate, act-command, act-write, act-read, act-cycle, act-reset, act-take, act-close, Fit};
 ghost use Rattle.board.specs.Own.{viewed};
 ghost use Rattle.std.specs.Results.{Cases};
 ghost use Rattle.std.specs.declared.option.Option.the-variants.{Some};

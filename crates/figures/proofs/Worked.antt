@@ -1,14 +1,14 @@
 -- The worked figures hold, by computation.
-use mathlib.Core.Path.{_≡_, refl}
+use mathlib.Core.Path.{refl}
 use mathlib.Core.List.{[], _∷_}
-use lib.IntN.{pos, negℤ}
+use lib.IntN.{pos}
 use Rattle.wave.specs.Wave.{wave}
 use Rattle.stage.specs.Cut.{cut}
 use Rattle.motion.specs.Reach.{falling, reach}
 use Rattle.motion.specs.Speed.{largest}
 use Rattle.motion.specs.Course.{toward, halts, pace, along, trapezoid, wrap, wraps, advanced, crosses, whole-steps, distance-to, counted}
 use Rattle.motion.specs.Course.{cruise as cruise-velocity}
-use Rattle.figures.specs.Figures.{Holds, move, cruise, over, All, figures}
+use Rattle.figures.specs.Figures.{Holds, move, All, figures}
 
 first-move : Holds (move (pos 1) 40000 (pos 16384) (pos 16384 ∷ pos 32768 ∷ pos 16384 ∷ pos 0 ∷ []))
 unfolding falling reach largest toward halts pace along trapezoid wrap wraps advanced crosses whole-steps distance-to counted

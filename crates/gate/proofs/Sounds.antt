@@ -1,14 +1,12 @@
 -- What keeps a record sound.
 use mathlib.Core.Path.{_≡_, sym, subst}
 use mathlib.Core.Bool.{Bool}
-use Prim.Native.Nat.{ℕ}
-use native.Mathlib.Omega.{arith}
 use borrow.Author.Needs.{needs}
 use Rattle.std.proofs.shelf.Signed.{ints}
 use Rattle.gate.specs.declared.gate.Gate.{Gate}
 use Rattle.gate.specs.Gates.{fresh}
 use Rattle.gate.specs.Profile.{first-profile}
-use Rattle.gate.specs.Sound.{Ranged, Powered, Moving, Sound}
+use Rattle.gate.specs.Sound.{Ranged, Sound}
 
 first-ranged : Ranged first-profile
 first-ranged = search (needs, ints)

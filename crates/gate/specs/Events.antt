@@ -1,6 +1,6 @@
 -- The event bits of a gate and their places.
 use mathlib.Core.Bool.{Bool, false, cond, _&&_, _||_}
-use Prim.Native.Nat.{ℕ, _+_, _*_, _/_, _%_, _^_}
+use Prim.Native.Nat.{ℕ, _+_, _/_, _%_, _^_}
 use lib.Dec.{eqb}
 use Rattle.gate.specs.declared.events.Event.{Event}
 use Rattle.gate.specs.declared.events.Event.the-variants.{MotionComplete, WrapAround, Breakpoint, PositiveLimit, NegativeLimit, CommandError}

@@ -1,29 +1,18 @@
 -- The record of one gate, and what is done to it.
-use mathlib.Core.Bool.{Bool, true, false, cond, not, _&&_, _||_}
-use Prim.Native.Nat.{ℕ, _+_, _*_, _^_}
-use lib.Dec.{eqb}
-use lib.IntN.{ℤ, pos, natAbs, _*ℤ_}
-use lib.Signed.{ltZ, leZ}
-use mir.Syntax.{w32}
-use mir.Val.{toZ}
-use Rattle.motion.specs.Course.{advanced, counted, crosses, cruise, distance-to, trapezoid, whole-steps}
+use mathlib.Core.Bool.{Bool, true, false, _&&_, _||_}
+use Prim.Native.Nat.{ℕ}
+use lib.IntN.{ℤ, pos, _*ℤ_}
 use Rattle.wave.specs.declared.phases.MotorKind.{MotorKind}
-use Rattle.wave.specs.declared.phases.MotorKind.the-variants.{TwoPhase, ThreePhase}
-use Rattle.wave.specs.Phases.{phases}
-use Rattle.gate.specs.declared.breakpoint.BreakMode.{BreakMode}
-use Rattle.gate.specs.declared.breakpoint.BreakMode.the-variants.{Off, Time, TargetAbove, TargetBelow, ActualAbove, ActualBelow, Complete, External}
+use Rattle.wave.specs.declared.phases.MotorKind.the-variants.{TwoPhase}
+use Rattle.gate.specs.declared.breakpoint.BreakMode.the-variants.{Off}
 use Rattle.gate.specs.declared.breakpoint.Breakpoint.{Breakpoint}
 use Rattle.gate.specs.declared.clock.Clock.{Clock}
 use Rattle.gate.specs.declared.events.Events.{Events}
 use Rattle.gate.specs.declared.gate.Gate.{Gate}
-use Rattle.gate.specs.declared.inputs.Inputs.{Inputs}
-use Rattle.gate.specs.declared.limits.Detectors.{Detectors}
 use Rattle.gate.specs.declared.motion.Motion.{Motion}
 use Rattle.gate.specs.declared.powers.Powers.{Powers}
 use Rattle.gate.specs.declared.profile.Profile.{Profile}
 use Rattle.gate.specs.declared.profile.ProfileMode.{ProfileMode}
-use Rattle.gate.specs.declared.profile.ProfileMode.the-variants.{Trapezoidal, Velocity}
-use Rattle.gate.specs.Clock.{ticked, time}
 use Rattle.gate.specs.Events.{no-events}
 use Rattle.gate.specs.Profile.{first-profile}
 

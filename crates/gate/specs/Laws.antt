@@ -2,7 +2,7 @@
 use mathlib.Core.Path.{_≡_}
 use mathlib.Core.Bool.{Bool, true, false, not, _&&_, _||_}
 use Prim.Native.Nat.{ℕ, _≤_, max}
-use lib.IntN.{ℤ, natAbs, _-ℤ_}
+use lib.IntN.{natAbs, _-ℤ_}
 use Rattle.motion.specs.Course.{advanced, counted, crosses, whole-steps}
 use Rattle.gate.specs.declared.gate.Gate.{Gate}
 use Rattle.gate.specs.declared.inputs.Inputs.{Inputs}

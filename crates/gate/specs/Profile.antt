@@ -1,7 +1,7 @@
 -- The profile registers.
 use lib.IntN.{pos}
 use Rattle.gate.specs.declared.profile.Profile.{Profile}
-use Rattle.gate.specs.declared.profile.ProfileMode.the-variants.{Trapezoidal, Velocity}
+use Rattle.gate.specs.declared.profile.ProfileMode.the-variants.{Trapezoidal}
 
 -- after a reset
 abbrev pub first-profile : Profile

@@ -1,7 +1,6 @@
 -- What a gate can be asked.
-use mathlib.Core.Bool.{Bool, cond, not}
+use mathlib.Core.Bool.{Bool, not}
 use Prim.Native.Nat.{ℕ, _+_, _*_, _^_}
-use lib.IntN.{ℤ}
 use mir.Syntax.{w32}
 use mir.Val.{ofZ}
 use Rattle.motion.specs.Course.{whole-steps}

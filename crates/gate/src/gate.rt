@@ -25,7 +25,8 @@ use crate::profile::ProfilePartialEq;
 use wave::phases::MotorKind;
 use wave::phases::MotorKindPartialEq;
 
-// Everything that is known of one gate. What holds a gate keeps its registers in their ranges.
+// A gate is one axis of a board: a hopper gate and the stepping motor that moves it. This is all that is known of it; what holds the
+// record keeps its registers in their ranges.
 #[derive(Clone, Copy, PartialEq)]
 pub struct Gate {
     pub buffered: Profile,

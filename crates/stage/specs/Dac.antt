@@ -2,10 +2,10 @@
 use mathlib.Core.List.{List}
 use mathlib.Core.Bool.{cond}
 use Prim.Native.Nat.{ℕ}
-use lib.IntN.{ℤ, pos, _-ℤ_, _+ℤ_}
+use lib.IntN.{ℤ, pos, _-ℤ_}
 use lib.ListN.{getD}
 use lib.Dec.{eqb}
-use Rattle.stage.specs.Pairs.{Pair, Pairs}
+use Rattle.stage.specs.Pairs.{Pairs}
 
 -- the number that a word stands for
 abbrev pub number : ℕ → ℤ

@@ -1,6 +1,6 @@
 -- The PWM lines: a magnitude and a sign for each phase.
 use mathlib.Core.Bool.{Bool, true, cond, not, _&&_}
-use Prim.Native.Nat.{ℕ, _*_}
+use Prim.Native.Nat.{_*_}
 use lib.Dec.{eqb}
 use lib.IntN.{ℤ, pos, negℤ}
 use Rattle.stage.specs.declared.pulse.Pulse.{Pulse}

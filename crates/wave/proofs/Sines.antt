@@ -1,8 +1,8 @@
 -- The facts of the quarter wave, each by one computed test.
-use mathlib.Core.Path.{_≡_, sym, subst}
+use mathlib.Core.Path.{_≡_}
 use Prim.Native.Nat.{ℕ, _+_, _-_, _*_, _<_, _≤_}
 use native.Mathlib.Omega.{arith}
-use lib.Dec.{T, ltb, ltb→lt, leb, leb→le}
+use lib.Dec.{ltb, ltb→lt, leb, leb→le}
 use lib.ListN.{getD}
 use Rattle.wave.specs.Quarter.{quarter, Near, Rising, Circular, Even, Sine}
 use Rattle.wave.proofs.Every.{at, nearb, near}

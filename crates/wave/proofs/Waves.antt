@@ -1,9 +1,9 @@
 -- The two halves of the wave, and the size of a share.
 use mathlib.Core.Path.{_≡_, ap, sym, _∙_}
-use mathlib.Core.Bool.{true, false, cond}
+use mathlib.Core.Bool.{cond}
 use Prim.Native.Nat.{ℕ, _-_, _*_, _/_, _<_, _≤_}
 use native.Mathlib.Omega.{arith}
-use lib.Dec.{ltb, leb, leb→le}
+use lib.Dec.{leb, leb→le}
 use lib.IntN.{ℤ, pos, negℤ}
 use borrow.Author.Tests.{lt-ltb, le-ltb}
 use Rattle.std.proofs.shelf.Bits.{mul-le, div-add-mod'}

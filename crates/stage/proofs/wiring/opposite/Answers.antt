@@ -1,5 +1,5 @@
 use native.Mathlib.Omega.{arith}
-use Rattle.std.proofs.shelf.Signed.{ints, toZ-ofZ}
+use Rattle.std.proofs.shelf.Signed.{toZ-ofZ}
 use Rattle.stage.proofs.Cuts.{cut-opposite, cut-low}
 use Rattle.stage.proofs.wiring.opposite.Needs as need
 

@@ -1,6 +1,5 @@
-use mathlib.Core.Path.{_≡_, sym, subst}
+use mathlib.Core.Path.{sym, subst}
 use Rattle.gate.specs.declared.gate.Gate.{Gate}
-use Rattle.gate.specs.Cycles.{cycled}
 use Rattle.gate.specs.Laws.{Paced, Ordered}
 use Rattle.gate.proofs.Steps.{chained, cycle-paced, cycle-ordered}
 use Rattle.gate.proofs.gate.Gate.cycle.Needs as need
