@@ -1,4 +1,6 @@
 // The board: two gates, one port, one output stage.
+#![tactic(auto)]
+
 mod acts;
 pub mod board;
 pub mod command;

@@ -1,4 +1,6 @@
 // Shows a move of one gate cycle by cycle, or commissions a motor's windings.
+#![tactic(auto)]
+
 use stage::wiring::Wire;
 use std::env;
 use travel::journey::Journey;

@@ -1,2 +1,4 @@
 // A board at its host's desk, with the service slips that the host keeps for it.
+#![tactic(auto)]
+
 pub mod desk;

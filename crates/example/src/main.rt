@@ -1,4 +1,6 @@
 // Plays the example script of the script language's page, as the console plays it.
+#![tactic(auto)]
+
 use host::console;
 use std::env;
 

@@ -1,4 +1,6 @@
 // Shows the move of the console page, as the console shows it.
+#![tactic(auto)]
+
 use host::console;
 use std::env;
 

@@ -1,4 +1,6 @@
 // Runs a trial of windings, as the console runs it.
+#![tactic(auto)]
+
 use host::console;
 use std::env;
 

@@ -1,4 +1,6 @@
 // The worked figures of the shop, proved together.
+#![tactic(auto)]
+
 ghost use Rattle.std.specs.Prelude.{◌≡◌, length};
 ghost use Rattle.figures.specs.Figures.{All, figures};
 

@@ -1,4 +1,6 @@
 // One gate: its record, and everything that a command or a cycle does to it.
+#![tactic(auto)]
+
 pub mod breakpoint;
 pub mod clock;
 pub mod cycle;

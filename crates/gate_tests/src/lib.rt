@@ -1,4 +1,6 @@
 // Runs of a gate, held to values that tools/gate.py worked out.
+#![tactic(auto)]
+
 #[cfg(test)]
 mod bits;
 #[cfg(test)]

@@ -1,4 +1,6 @@
 // The host console: its arguments, its scripts and its built-in task.
+#![tactic(auto)]
+
 pub mod console;
 pub mod lot;
 pub mod lots;

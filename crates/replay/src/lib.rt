@@ -1,4 +1,6 @@
 // Plays a list of acts, coded as bytes, against two new boards, and writes what they answer as bytes.
+#![tactic(auto)]
+
 ghost use Rattle.std.specs.Prelude.{◌≡◌, ◌≤◌, true, false, length};
 ghost use Rattle.replay.specs.Replays.{Answered};
 ghost use Rattle.replay.specs.Returns.{Returns};

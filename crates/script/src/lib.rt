@@ -1,4 +1,6 @@
 // The script language of the host console: its lines, what they send to a board, and what they answer.
+#![tactic(auto)]
+
 pub mod boards;
 pub mod fault;
 pub mod line;

@@ -1,4 +1,6 @@
 // Lines of scripts, good and damaged.
+#![tactic(auto)]
+
 #[cfg(test)]
 mod tests {
     use desk::desk::Desk;

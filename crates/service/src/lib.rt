@@ -1,4 +1,6 @@
 // Rounds of service at a board.
+#![tactic(auto)]
+
 pub mod round;
 pub mod turns;
 

@@ -1,4 +1,6 @@
 // Output stages: what stands between a gate's phase numbers and the wires of its motor.
+#![tactic(auto)]
+
 ghost use Rattle.std.specs.Prelude.{◌≡◌, ℕ, ◌≤◌};
 ghost use Rattle.stage.specs.Pairs.{Pairs, Bounded, pair_of, shown};
 

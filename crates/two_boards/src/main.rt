@@ -1,4 +1,6 @@
 // The host console of two boards.
+#![tactic(auto)]
+
 use host::console;
 use std::env;
 

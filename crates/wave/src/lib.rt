@@ -1,4 +1,6 @@
 // Microstepping: the sine table, the wave made from it, and the phases of a motor at a position.
+#![tactic(auto)]
+
 pub mod phases;
 pub mod quarter;
 pub mod wave;

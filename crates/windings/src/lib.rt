@@ -1,4 +1,6 @@
 // A trial of a motor's windings: one gate is stepped through a turn, over two output stages.
+#![tactic(auto)]
+
 pub mod rig;
 pub mod row;
 pub mod settings;
