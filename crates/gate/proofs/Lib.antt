@@ -1,2 +1,3 @@
+pub mod Equalities
 pub mod Sounds
 pub mod Steps

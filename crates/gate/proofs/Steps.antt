@@ -6,7 +6,7 @@ use Rattle.motion.proofs.Velocities.{trapezoid_size, trapezoid_step, cruise_size
 use Rattle.motion.specs.Course.{advanced, counted, crosses, distance_to, whole_steps}
 use Rattle.gate.specs.declared.gate.Gate.{Gate}
 use Rattle.gate.specs.declared.inputs.Inputs.{Inputs}
-use Rattle.gate.specs.declared.motion.Motion.{Motion}
+use Rattle.gate.specs.declared.movement.Motion.{Motion}
 use Rattle.gate.specs.declared.profile.ProfileMode.{ProfileMode}
 use Rattle.gate.specs.declared.profile.ProfileMode.TheVariants.{Trapezoidal, Velocity}
 use Rattle.gate.specs.Cycles.{clocked, encoded, limits, trips, tripped, holds, marked, meets, met, paced, next_velocity, moved, arrived, at_rest, settled, brought, cycled}

@@ -7,7 +7,7 @@ use Rattle.gate.specs.declared.breakpoint.Breakpoint.{Breakpoint}
 use Rattle.gate.specs.declared.clock.Clock.{Clock}
 use Rattle.gate.specs.declared.events.Events.{Events}
 use Rattle.gate.specs.declared.gate.Gate.{Gate}
-use Rattle.gate.specs.declared.motion.Motion.{Motion}
+use Rattle.gate.specs.declared.movement.Motion.{Motion}
 use Rattle.gate.specs.declared.powers.Powers.{Powers}
 use Rattle.gate.specs.declared.profile.Profile.{Profile}
 use Rattle.gate.specs.declared.profile.ProfileMode.{ProfileMode}

@@ -2,7 +2,7 @@
 use Rattle.std.specs.Prelude.{◌^◌, ◌<◌, ◌≤◌, unsigned_abs}
 use Rattle.motion.specs.Course.{Within}
 use Rattle.gate.specs.declared.gate.Gate.{Gate}
-use Rattle.gate.specs.declared.motion.Motion.{Motion}
+use Rattle.gate.specs.declared.movement.Motion.{Motion}
 use Rattle.gate.specs.declared.powers.Powers.{Powers}
 use Rattle.gate.specs.declared.profile.Profile.{Profile}
 

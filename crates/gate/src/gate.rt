@@ -8,7 +8,7 @@ use crate::breakpoint::{BreakMode, Breakpoint};
 use crate::clock::Clock;
 use crate::events::Events;
 use crate::limits::Detectors;
-use crate::motion::Motion;
+use crate::movement::Motion;
 use crate::powers::Powers;
 use crate::profile::{Profile, ProfileMode};
 use wave::phases::MotorKind;

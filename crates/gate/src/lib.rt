@@ -9,7 +9,7 @@ pub mod events;
 pub mod gate;
 pub mod inputs;
 pub mod limits;
-pub mod motion;
+pub mod movement;
 pub mod orders;
 pub mod powers;
 pub mod profile;

@@ -10,7 +10,7 @@ use Rattle.gate.specs.declared.breakpoint.BreakMode.{BreakMode}
 use Rattle.gate.specs.declared.breakpoint.BreakMode.TheVariants as break
 use Rattle.gate.specs.declared.breakpoint.Breakpoint.{Breakpoint}
 use Rattle.gate.specs.declared.gate.Gate.{Gate}
-use Rattle.gate.specs.declared.motion.Motion.{Motion}
+use Rattle.gate.specs.declared.movement.Motion.{Motion}
 use Rattle.gate.specs.declared.profile.Profile.{Profile}
 use Rattle.gate.specs.declared.profile.ProfileMode.{ProfileMode}
 use Rattle.gate.specs.declared.profile.ProfileMode.TheVariants as mode

@@ -9,7 +9,7 @@ use crate::out::Out;
 use board::board::Board;
 use gate::breakpoint::{BreakMode, Breakpoint};
 use gate::gate::Gate;
-use gate::motion::Motion;
+use gate::movement::Motion;
 use gate::profile::{Profile, ProfileMode};
 use stage::Stage;
 use wave::phases::MotorKind;

@@ -42,7 +42,6 @@ mod tests {
     use crate::dac::Dac;
     use crate::pwm::Pwm;
     use crate::wiring::{Wire, Wiring};
-    use std::test::Fail;
 
     #[test]
     fn cuts_toward_zero(rt: HostRuntime) {
@@ -69,19 +68,16 @@ mod tests {
     }
 
     #[test]
-    fn pwm_lines(rt: HostRuntime) -> Result<(), Fail> {
+    fn pwm_lines(rt: HostRuntime) {
         let mut pwm = Pwm::new();
         pwm.show(1, -127, -32767);
-        let Some((a, b)) = pwm.pulses(1) else {
-            return Err(Fail::new("gate 1 has lines"));
-        };
+        let (a, b) = pwm.pulses(1).expect(&rt, "gate 1 has lines");
         assert_eq!(rt; a.magnitude, 0);
         assert_eq!(rt; a.negative, false);
         assert_eq!(rt; b.magnitude, 255);
         assert_eq!(rt; b.negative, true);
         assert_eq!(rt; pwm.pair(1), (0, -32640));
         assert!(rt; pwm.pulses(3).is_none());
-        Ok(())
     }
 
     #[test]
@@ -101,7 +97,7 @@ mod tests {
         assert_eq!(rt; pile.below().pair(1), (32767, -7));
         assert_eq!(rt; pile.below().below().pair(1), (-7, -32767));
         assert_eq!(rt; pile.below().below().pair(2), (32767, -7));
-        assert_eq!(rt; WiringStage::<Pwm>::STEP, 128);
-        assert_eq!(rt; WiringStage::<Dac>::step_size(), 1);
+        assert_eq!(rt; <Wiring<Pwm> as Stage>::STEP, 128);
+        assert_eq!(rt; <Wiring<Dac> as Stage>::step_size(), 1);
     }
 }

@@ -11,7 +11,7 @@ pub returns : goal.returns
 unfolding cruise
 returns c =
     let last : c.toward.result ≡ cruise c.args.v c.args.top c.args.acceleration = grind (arith, to_z-of_z) in
-    let is = to_z-of_z w32 c.toward.result (record { sfits = c.toward.type-inv }) ∙ last in
+    let is = to_z-of_z w32 c.toward.result (record { sfits = c.toward.type_inv }) ∙ last in
     record {
       is = is;
       size = cruise_size _ _ _ _ is;

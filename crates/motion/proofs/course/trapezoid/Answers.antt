@@ -9,7 +9,7 @@ returns-then-halts c =
     let last : c.toward.result ≡ trapezoid c.args.v c.args.top c.args.rate c.args.distance =
     grind (arith, to_z-of_z, trapezoid_halts)
     in
-    let is = to_z-of_z w32 c.toward.result (record { sfits = c.toward.type-inv }) ∙ last in
+    let is = to_z-of_z w32 c.toward.result (record { sfits = c.toward.type_inv }) ∙ last in
     record {
       is = is;
       size = trapezoid_size _ _ _ _ _ is;
@@ -23,7 +23,7 @@ returns c =
     let last : c.along.result ≡ trapezoid c.args.v c.args.top c.args.rate c.args.distance =
     grind (arith, to_z-of_z, trapezoid_runs)
     in
-    let is = to_z-of_z w32 c.along.result (record { sfits = c.along.type-inv }) ∙ last in
+    let is = to_z-of_z w32 c.along.result (record { sfits = c.along.type_inv }) ∙ last in
     record {
       is = is;
       size = trapezoid_size _ _ _ _ _ is;

@@ -6,9 +6,9 @@ use Rattle.motion.proofs.Turns.{steps_within}
 use Rattle.motion.proofs.course.whole_steps.Goals as goal
 
 -- the call of `div_euclid` is the definition
-is : (c : goal.After-div-euclid) → c.div-euclid.result ≡ whole_steps c.args.p
+is : (c : goal.After-div_euclid) → c.div_euclid.result ≡ whole_steps c.args.p
 unfolding whole_steps
-is c = c.div-euclid.ensures ∙ ap (λ (z : ℤ). int_div_euclid z (pos 65536)) (to_z-of_z w64 c.args.p c.ranges.p)
+is c = c.div_euclid.ensures ∙ ap (λ (z : ℤ). int_div_euclid z (pos 65536)) (to_z-of_z w64 c.args.p c.ranges.p)
 
 pub returns : goal.returns
 returns c =

@@ -6,18 +6,18 @@ use Rattle.motion.proofs.reach.reach.Goals as goal
 
 -- the closed form, of what is computed
 closed : (c : goal.After-from-2)
-    → c.from-2.result * (c.from-terms.result * c.saturating-sub.result / 2) + reach c.from-2.result c.from.result
+    → c.from-2.result * (c.from-terms.result * c.saturating_sub.result / 2) + reach c.from-2.result c.from.result
     ≡ c.from-terms.result * c.from.result
 closed c =
-    reach_closed c.from-2.result c.from.result c.from-terms.result c.saturating-sub.result (omega arith) (cc)
-    c.saturating-sub.ensures
+    reach_closed c.from-2.result c.from.result c.from-terms.result c.saturating_sub.result (omega arith) (cc)
+    c.saturating_sub.ensures
 
-pub overflow-mul-result-2 : goal.overflow-mul-result-2
-overflow-mul-result-2 c =
+pub overflow_mul-result-2 : goal.overflow_mul-result-2
+overflow_mul-result-2 c =
     omega (arith, closed c, mul-lt c.from-terms.result c.from.result (2 ^ 32) (2 ^ 30) (omega arith) (omega arith))
 
-pub overflow-sub-result : goal.overflow-sub-result
-overflow-sub-result c = omega (arith, closed c)
+pub overflow_sub-result : goal.overflow_sub-result
+overflow_sub-result c = omega (arith, closed c)
 
 pub returns : goal.returns
 returns c =

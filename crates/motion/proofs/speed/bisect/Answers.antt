@@ -12,7 +12,7 @@ halving turn h =
 
 pub loop-turn-preserved : goal.loop-turn-preserved
 loop-turn-preserved c =
-    let h = halving c.loop-turn.-turn c.loop-turn-test.true in
+    let h = halving c.loop-turn._turn c.loop-turn-test.true in
     let at = reach c.args.rate in
     let middle = (c.loop-turn.low + c.loop-turn.high) / 2 in
     elim c.if-fits.branch [
@@ -28,8 +28,8 @@ loop-turn-preserved c =
 
 pub returns-after-loop-turn : goal.returns-after-loop-turn
 returns-after-loop-turn c =
-    let e : 29 - c.loop-turn.-turn ≡ 0 = omega arith in
-    let p : 2 ^ (29 - c.loop-turn.-turn) ≡ 1 = ap (λ (k : ℕ). 2 ^ k) e in
+    let e : 29 - c.loop-turn._turn ≡ 0 = omega arith in
+    let p : 2 ^ (29 - c.loop-turn._turn) ≡ 1 = ap (λ (k : ℕ). 2 ^ k) e in
     let s : c.loop-turn.low + 1 ≡ c.loop-turn.high = omega arith in
     record { within = omega arith; fits = omega arith; over = omega (arith, ap (reach c.args.rate) s) }
 

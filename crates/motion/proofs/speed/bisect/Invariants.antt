@@ -6,6 +6,6 @@ abbrev pub invariant-loop-turn : goal.invariant-loop-turn
 invariant-loop-turn l =
     (l.low < l.high)
     × (l.high ≤ l.initial.high)
-    × (l.high ≤ l.low + 2 ^ (29 - l.-turn))
+    × (l.high ≤ l.low + 2 ^ (29 - l._turn))
     × (reach l.rate l.low ≤ l.distance)
     × (l.distance < reach l.rate l.high)

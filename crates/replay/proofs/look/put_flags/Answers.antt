@@ -2,8 +2,8 @@ use Rattle.std.proofs.Common.{[], ◌∷◌, ap, ◌∙◌, arith}
 use Rattle.replay.proofs.Writes.{both, being, events_small, flag_is, two}
 use Rattle.replay.proofs.look.put_flags.Goals as goal
 
-pub overflow-cast-word : goal.overflow-cast-word
-overflow-cast-word c = let small = events_small c.args.gate.now.events in let is = c.word.ensures in omega arith
+pub overflow_cast-word : goal.overflow_cast-word
+overflow_cast-word c = let small = events_small c.args.gate.now.events in let is = c.word.ensures in omega arith
 
 pub returns : goal.returns
 returns c =

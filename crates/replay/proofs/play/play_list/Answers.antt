@@ -12,23 +12,23 @@ loop-at-init g c = ([], [], refl, zero-le, (refl, refl, refl), nothing c.args.ou
 pub loop-at-preserved : goal.loop-at-preserved
 loop-at-preserved g c =
     let i = c.loop-at.invariant in
-    let s = c.in-ok-step.step in
-    let reads = c.in-ok-step.ensures in
-    let turn = c.in-ok-turn-at.ensures in
+    let s = c.in_ok-step.step in
+    let reads = c.in_ok-step.ensures in
+    let turn = c.in_ok-turn-at.ensures in
     let xs = c.args.list.now in
     let here : place i.0 < length xs = omega arith in
     (s ∷ i.0, i.1 ++ turn.0, refl, reads.3, (c.loop-at.a.board, c.loop-at.b.board, i.1, turn.0, i.4, here, subst (λ n. Reads xs n (Ok s)) i.2 reads, turn.1, refl), both {p = c.loop-at.out} {q = c.turn-at.new.out} i.5 turn.2)
 
-pub returns-in-err-turn-at : goal.returns-in-err-turn-at
-returns-in-err-turn-at g c =
+pub returns-in_err-turn-at : goal.returns-in_err-turn-at
+returns-in_err-turn-at g c =
     let i = c.loop-at.invariant in
-    let s = c.in-ok-step.step in
-    let reads = c.in-ok-step.ensures in
-    let turn = c.in-err-turn-at.ensures in
+    let s = c.in_ok-step.step in
+    let reads = c.in_ok-step.ensures in
+    let turn = c.in_err-turn-at.ensures in
     let xs = c.args.list.now in
     let here : place i.0 < length xs = omega arith in
-    let r = err_from_is_err_and c.from-residual-in-err-turn-at.result c.from-residual-in-err-turn-at.ensures.1 in
-    let full : c.from-residual-in-err-turn-at.result ≡ Err NoRoom = r.1 ∙ ap Err (r.2 ∙ turn.2.0) in
+    let r = err_from_is_err_and c.from-residual-in_err-turn-at.result c.from-residual-in_err-turn-at.ensures.1 in
+    let full : c.from-residual-in_err-turn-at.result ≡ Err NoRoom = r.1 ∙ ap Err (r.2 ∙ turn.2.0) in
     let a = c.args.a.now.board in
     let b = c.args.b.now.board in
     let o = c.args.out.now in (

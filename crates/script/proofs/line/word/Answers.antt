@@ -10,7 +10,7 @@ word_of text z None n b = tt
 
 pub returns : goal.returns
 returns c =
-    let z = c.in-ok-number.field-0 in
+    let z = c.in_ok-number.field-0 in
     let f : SFits w64 z = search rules in
     let bits : ℤ → Type 0 = λ x. Bits 32768 x c.word_of.result in
-    word_of c.args.text.now z c.word_of.result c.in-ok-number.ensures (subst bits (to_z-of_z w64 z f) c.word_of.ensures)
+    word_of c.args.text.now z c.word_of.result c.in_ok-number.ensures (subst bits (to_z-of_z w64 z f) c.word_of.ensures)

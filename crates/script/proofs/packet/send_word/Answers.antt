@@ -3,5 +3,5 @@ use Rattle.script.proofs.packet.send_word.Goals as goal
 
 pub returns : goal.returns
 returns g c =
-    sent_word g.S.Stage _ _ c.write.result c.args.desk.now.board c.command.new.self.board c.write.new.self.board c.in-ok-command.ensures
+    sent_word g.S.Stage _ _ c.write.result c.args.desk.now.board c.command.new.self.board c.write.new.self.board c.in_ok-command.ensures
     c.write.ensures

@@ -6,13 +6,13 @@ use Rattle.stage.proofs.cut.cut.Goals as goal
 pub returns-then-x-lt0 : goal.returns-then-x-lt0
 returns-then-x-lt0 c = record {
   is = grind (arith, to_z-of_z, cut_negative c.args.step c.args.x);
-  bound = omega (arith, ints, c.cut-size-size.ensures.bound);
+  bound = omega (arith, ints, c.cut_size-size.ensures.bound);
   kept = kept c.args.step c.args.x _ (grind (arith, to_z-of_z, cut_negative c.args.step c.args.x));
 }
 
 pub returns-else-x-lt0 : goal.returns-else-x-lt0
 returns-else-x-lt0 c = record {
   is = grind (arith, to_z-of_z, cut_positive c.args.step c.args.x);
-  bound = omega (arith, ints, c.cut-size-size.ensures.bound);
+  bound = omega (arith, ints, c.cut_size-size.ensures.bound);
   kept = kept c.args.step c.args.x _ (grind (arith, to_z-of_z, cut_positive c.args.step c.args.x));
 }

@@ -3,8 +3,8 @@ use Rattle.std.proofs.lemmas.Nat.{mul-le}
 use Rattle.wave.proofs.Waves.{share}
 use Rattle.wave.proofs.phases.scaled_size.Goals as goal
 
-pub overflow-mul-result : goal.overflow-mul-result
-overflow-mul-result c = record { fits = omega (arith, mul-le c.args.size c.from.result 32767 65535 c.requires (omega arith)) }
+pub overflow_mul-result : goal.overflow_mul-result
+overflow_mul-result c = record { fits = omega (arith, mul-le c.args.size c.from.result 32767 65535 c.requires (omega arith)) }
 
 pub returns : goal.returns
 returns c = record {

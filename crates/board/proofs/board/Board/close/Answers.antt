@@ -6,8 +6,8 @@ use Rattle.board.proofs.board.Board.close.Goals as goal
 pub close-requires : goal.close-requires
 close-requires g c = record { fit = fit_from c.args.self.now.table c.args.self.now.fit; gate = c.args.slip.known }
 
-pub invariant-of-self : goal.invariant-of-self
-invariant-of-self g c = (fit_to c.close.new.self c.close.ensures.fit, tt)
+pub invariant_of-self : goal.invariant_of-self
+invariant_of-self g c = (fit_to c.close.new.self c.close.ensures.fit, tt)
 
 pub returns-in-Err : goal.returns-in-Err
 returns-in-Err g c = record { did = did _ _ _ _ _ c.in-Err.ensures.answer c.close.ensures.state refl; back = refl }

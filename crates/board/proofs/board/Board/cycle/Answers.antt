@@ -10,8 +10,8 @@ use Rattle.board.proofs.board.Board.cycle.Goals as goal
 pub cycle-requires : goal.cycle-requires
 cycle-requires g c = fit_from c.args.self.now.table c.args.self.now.fit
 
-pub invariant-of-self : goal.invariant-of-self
-invariant-of-self g c = (fit_to c.cycle.new.self c.cycle.ensures.fit, tt)
+pub invariant_of-self : goal.invariant_of-self
+invariant_of-self g c = (fit_to c.cycle.new.self c.cycle.ensures.fit, tt)
 
 pub returns : goal.returns
 returns g c =

@@ -2,5 +2,5 @@ use Rattle.std.proofs.Common.{lit<}
 use Rattle.board.proofs.Fitting.{fit_to}
 use Rattle.board.proofs.board.Board.new.Goals as goal
 
-pub invariant-of-result : goal.invariant-of-result
-invariant-of-result g c = (fit_to _ (record { current = lit< tt; one = c.fresh-gate.ensures.sound; two = c.fresh-gate.ensures.sound }), tt)
+pub invariant_of-result : goal.invariant_of-result
+invariant_of-result g c = (fit_to _ (record { current = lit< tt; one = c.fresh-gate.ensures.sound; two = c.fresh-gate.ensures.sound }), tt)

@@ -6,8 +6,8 @@ use Rattle.board.proofs.board.Board.read.Goals as goal
 pub read-requires : goal.read-requires
 read-requires g c = fit_from c.args.self.now.table c.args.self.now.fit
 
-pub invariant-of-self : goal.invariant-of-self
-invariant-of-self g c = (fit_to c.read.new.self c.read.ensures.fit, tt)
+pub invariant_of-self : goal.invariant_of-self
+invariant_of-self g c = (fit_to c.read.new.self c.read.ensures.fit, tt)
 
 pub returns : goal.returns
 returns g c = did _ _ _ _ _ c.read.ensures.answer c.read.ensures.state refl

@@ -7,8 +7,8 @@ use Rattle.board.proofs.board.Board.reset.Goals as goal
 pub reset-requires : goal.reset-requires
 reset-requires g c = fit_from c.args.self.now.table c.args.self.now.fit
 
-pub invariant-of-self : goal.invariant-of-self
-invariant-of-self g c = (fit_to c.reset.new.self c.reset.ensures.fit, tt)
+pub invariant_of-self : goal.invariant_of-self
+invariant_of-self g c = (fit_to c.reset.new.self c.reset.ensures.fit, tt)
 
 pub returns : goal.returns
 returns g c =

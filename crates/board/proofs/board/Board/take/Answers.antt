@@ -6,11 +6,11 @@ use Rattle.board.proofs.board.Board.take.Goals as goal
 pub take-requires : goal.take-requires
 take-requires g c = fit_from c.args.self.now.table c.args.self.now.fit
 
-pub invariant-of-self : goal.invariant-of-self
-invariant-of-self g c = (fit_to c.take.new.self c.take.ensures.fit, tt)
+pub invariant_of-self : goal.invariant_of-self
+invariant_of-self g c = (fit_to c.take.new.self c.take.ensures.fit, tt)
 
-pub invariant-of-result : goal.invariant-of-result
-invariant-of-result g c = (c.in-Ok.ensures.bound, tt)
+pub invariant_of-result : goal.invariant_of-result
+invariant_of-result g c = (c.in-Ok.ensures.bound, tt)
 
 pub returns-in-Ok : goal.returns-in-Ok
 returns-in-Ok g c = record { did = did _ _ _ _ _ c.in-Ok.ensures.answer c.take.ensures.state refl; unspent = refl }

@@ -6,8 +6,8 @@ use Rattle.board.proofs.board.Board.write.Goals as goal
 pub write-requires : goal.write-requires
 write-requires g c = fit_from c.args.self.now.table c.args.self.now.fit
 
-pub invariant-of-self : goal.invariant-of-self
-invariant-of-self g c = (fit_to c.write.new.self c.write.ensures.fit, tt)
+pub invariant_of-self : goal.invariant_of-self
+invariant_of-self g c = (fit_to c.write.new.self c.write.ensures.fit, tt)
 
 pub returns : goal.returns
 returns g c = did _ _ _ _ _ c.write.ensures.answer c.write.ensures.state refl

@@ -3,7 +3,7 @@ use Rattle.board.specs.Acts.{act_cycle, state_of}
 use Rattle.desk.proofs.Marks.{still_keeps}
 use Rattle.desk.proofs.desk.Desk.cycle.Goals as goal
 
-pub invariant-of-self : goal.invariant-of-self
-invariant-of-self g c =
+pub invariant_of-self : goal.invariant_of-self
+invariant_of-self g c =
     let d = c.args.self.now in
     (still_keeps (state_of d.board.table) _ (act_cycle c.args.left c.args.right) d.first d.second refl c.cycle.ensures.state d.kept, tt)

@@ -5,41 +5,41 @@ use Rattle.desk.specs.Keeps.{state_keeps}
 use Rattle.desk.proofs.Taken.{first_none, second_none, keeps_first, keeps_second, keeps_none}
 use Rattle.desk.proofs.desk.Desk.take.Goals as goal
 
-pub invariant-of-self : goal.invariant-of-self
-invariant-of-self g c =
+pub invariant_of-self : goal.invariant_of-self
+invariant_of-self g c =
     let d = c.args.self.now in
-    (keeps_none (state_of d.board.table) d.first d.second d.kept _ _ c.in-err-slip.ensures.did.says c.take.ensures.did.state, tt)
+    (keeps_none (state_of d.board.table) d.first d.second d.kept _ _ c.in_err-slip.ensures.did.says c.take.ensures.did.state, tt)
 
 pub put-requires : goal.put-requires
 put-requires g c =
     let d = c.args.self.now in
-    let k : c.in-ok-slip.slip.gate ≡ 0 = omega arith in
-    first_none (state_of d.board.table) d.first d.second d.kept (ap slipped (sym k) ∙ c.in-ok-slip.ensures.did.says)
+    let k : c.in_ok-slip.slip.gate ≡ 0 = omega arith in
+    first_none (state_of d.board.table) d.first d.second d.kept (ap slipped (sym k) ∙ c.in_ok-slip.ensures.did.says)
 
-pub invariant-of-self-then-gate-eq1 : goal.invariant-of-self-then-gate-eq1
-invariant-of-self-then-gate-eq1 g c =
+pub invariant_of-self-then-gate-eq1 : goal.invariant_of-self-then-gate-eq1
+invariant_of-self-then-gate-eq1 g c =
     let d = c.args.self.now in
-    let s = c.in-ok-slip.slip in
+    let s = c.in_ok-slip.slip in
     let k : s.gate ≡ 0 = omega arith in
     let z = state_of c.take.new.self.table in (
       ap (λ o. state_keeps z o d.second) c.put.ensures
-          ∙ keeps_first (state_of d.board.table) d.first d.second d.kept z s k (ap slipped (sym k) ∙ c.in-ok-slip.ensures.did.says) c.take.ensures.did.state,
+          ∙ keeps_first (state_of d.board.table) d.first d.second d.kept z s k (ap slipped (sym k) ∙ c.in_ok-slip.ensures.did.says) c.take.ensures.did.state,
       tt,
     )
 
 pub put-requires-else-gate-eq1 : goal.put-requires-else-gate-eq1
 put-requires-else-gate-eq1 g c =
     let d = c.args.self.now in
-    let k : c.in-ok-slip.slip.gate ≡ 1 = omega (arith, c.in-ok-slip.slip.known) in
-    second_none (state_of d.board.table) d.first d.second d.kept (ap slipped (sym k) ∙ c.in-ok-slip.ensures.did.says)
+    let k : c.in_ok-slip.slip.gate ≡ 1 = omega (arith, c.in_ok-slip.slip.known) in
+    second_none (state_of d.board.table) d.first d.second d.kept (ap slipped (sym k) ∙ c.in_ok-slip.ensures.did.says)
 
-pub invariant-of-self-else-gate-eq1 : goal.invariant-of-self-else-gate-eq1
-invariant-of-self-else-gate-eq1 g c =
+pub invariant_of-self-else-gate-eq1 : goal.invariant_of-self-else-gate-eq1
+invariant_of-self-else-gate-eq1 g c =
     let d = c.args.self.now in
-    let s = c.in-ok-slip.slip in
+    let s = c.in_ok-slip.slip in
     let k : s.gate ≡ 1 = omega (arith, s.known) in
     let z = state_of c.take.new.self.table in (
       ap (λ o. state_keeps z d.first o) c.put-else-gate-eq1.ensures
-          ∙ keeps_second (state_of d.board.table) d.first d.second d.kept z s k (ap slipped (sym k) ∙ c.in-ok-slip.ensures.did.says) c.take.ensures.did.state,
+          ∙ keeps_second (state_of d.board.table) d.first d.second d.kept z s k (ap slipped (sym k) ∙ c.in_ok-slip.ensures.did.says) c.take.ensures.did.state,
       tt,
     )

@@ -3,7 +3,7 @@ use Rattle.board.specs.Acts.{act_write, state_of}
 use Rattle.desk.proofs.Marks.{still_keeps}
 use Rattle.desk.proofs.desk.Desk.write.Goals as goal
 
-pub invariant-of-self : goal.invariant-of-self
-invariant-of-self g c =
+pub invariant_of-self : goal.invariant_of-self
+invariant_of-self g c =
     let d = c.args.self.now in
     (still_keeps (state_of d.board.table) _ (act_write c.args.word) d.first d.second refl c.write.ensures.state d.kept, tt)

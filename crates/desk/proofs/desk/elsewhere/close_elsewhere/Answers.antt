@@ -6,8 +6,8 @@ use Rattle.desk.proofs.Taken.{fst, snd}
 use Rattle.desk.proofs.Elsewhere.{both, theirs_after, rest_after, ends}
 use Rattle.desk.proofs.desk.elsewhere.close_elsewhere.Goals as goal
 
-pub invariant-of-other-in-2 : goal.invariant-of-other-in-2
-invariant-of-other-in-2 g c =
+pub invariant_of-other-in-2 : goal.invariant_of-other-in-2
+invariant_of-other-in-2 g c =
     let own = c.args.own.now in
     let other = c.args.other.now in
     let o = state_of own.board.table in
