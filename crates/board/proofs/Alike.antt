@@ -33,7 +33,7 @@ cut_pair step p = (cut step p.0, cut step p.1)
 shown_cuts : (step : ℕ) (p : Pairs) (k : ℕ) → k < 2 → shown_of (cuts step p) k ≡ cut_pair step (shown_of p k)
 shown_cuts step p = by_two (λ k. shown_of (cuts step p) k ≡ cut_pair step (shown_of p k)) refl refl
 
-module _ {S : Type 0} (m : Ghosts S) (b : Board S) (h : List Act) (k : ℕ) (l : k < 2) (c : Came m h b) where
+module _ {S : Type 0} (m : Ghosts S) (b : Board S m) (h : List Act) (k : ℕ) (l : k < 2) (c : Came m h b) where
   gate_is : gate_of (state_of b.table) k ≡ alone (own k h)
   gate_is = ap (λ s. gate_of s k) c.state ∙ replayed k l h
 
@@ -44,11 +44,11 @@ module _ {S : Type 0} (m : Ghosts S) (b : Board S) (h : List Act) (k : ℕ) (l :
   active_is = ap (λ g. g.active) gate_is ∙ (booked (own k h)).latched
 
 -- of one board
-pub booked_board : {S : Type 0} (m : Ghosts S) (b : Board S) → Booked m b
+pub booked_board : {S : Type 0} (m : Ghosts S) (b : Board S m) → Booked m b
 booked_board m b k l h c = active_is m b h k l c
 
 -- of two
-pub isolated : {S R : Type 0} (m : Ghosts S) (b : Board S) (n : Ghosts R) (d : Board R) → 1 ≤ m.step → 1 ≤ n.step → Isolated m b n d
+pub isolated : {S R : Type 0} (m : Ghosts S) (b : Board S m) (n : Ghosts R) (d : Board R n) → 1 ≤ m.step → 1 ≤ n.step → Isolated m b n d
 isolated m b n d low low' k l h i came came' e =
     let x = pair_is m b h k l came in
     let y = pair_is n d i k l came' ∙ ap (λ es. cut_pair n.step (display es)) (sym e) in

@@ -39,7 +39,7 @@ pub dark_cuts : (step : ℕ) → dark ≡ cuts step dark
 dark_cuts step = cc (cut_zero step)
 
 module _ {S : Type 0} (m : Ghosts S) where
-  pairs_still : (b : Board S) (a : Act) (e : Refusal) → answer (state_of b.table) a ≡ refused e → pairs_after m b a ≡ m.pairs b.stage
+  pairs_still : (b : Board S m) (a : Act) (e : Refusal) → answer (state_of b.table) a ≡ refused e → pairs_after m b a ≡ m.pairs b.stage
   pairs_still b (act_cycle i j) e h = cc
   pairs_still b act_reset e h = cc
   pairs_still b (act_command x) e h = refl
@@ -48,7 +48,7 @@ module _ {S : Type 0} (m : Ghosts S) where
   pairs_still b act_take e h = refl
   pairs_still b (act_close j w) e h = refl
 
-  pairs_on : (b : Board S) (a : Act) (s : State) (p : Pairs) → state_of b.table ≡ s → m.pairs b.stage ≡ cuts m.step p → pairs_after m b a ≡ cuts m.step (given s a p)
+  pairs_on : (b : Board S m) (a : Act) (s : State) (p : Pairs) → state_of b.table ≡ s → m.pairs b.stage ≡ cuts m.step p → pairs_after m b a ≡ cuts m.step (given s a p)
   pairs_on b (act_cycle i j) s p e h = ap (λ z. cuts m.step (given z (act_cycle i j) dark)) e
   pairs_on b act_reset s p e h = dark_cuts m.step
   pairs_on b (act_command x) s p e h = h
@@ -57,7 +57,7 @@ module _ {S : Type 0} (m : Ghosts S) where
   pairs_on b act_take s p e h = h
   pairs_on b (act_close k w) s p e h = h
 
-  pub did : (a : Act) (x : Answer) (b c : Board S) → x ≡ answer (state_of b.table) a → state_of c.table ≡ after (state_of b.table) a
+  pub did : (a : Act) (x : Answer) (b c : Board S m) → x ≡ answer (state_of b.table) a → state_of c.table ≡ after (state_of b.table) a
       → m.pairs c.stage ≡ pairs_after m b a → Did m a x b c
   did a x b c says state pairs = record {
     says = says;

@@ -110,11 +110,11 @@ abbrev pub shown_of : Pairs → ℕ → Pair
 shown_of p k = cond (k == 0) p.one p.two
 
 -- one board alone: the active registers of each gate are those latched in the book of its own list
-module _ {S : Type 0} (m : Ghosts S) (b : Board S) where
+module _ {S : Type 0} (m : Ghosts S) (b : Board S m) where
   abbrev pub Booked : Type 0
   Booked = (k : ℕ) → k < 2 → (h : List Act) → Came m h b → (gate_of (state_of b.table) k).active ≡ (book (own k h)).latched
 
-module _ {S R : Type 0} (m : Ghosts S) (b : Board S) (n : Ghosts R) (d : Board R) where
+module _ {S R : Type 0} (m : Ghosts S) (b : Board S m) (n : Ghosts R) (d : Board R n) where
   -- what two boards that came by h and by i have in common of gate k
   pub record Alike (k : ℕ) (h i : List Act) : Type 0 where
     pub record_same : gate_of (state_of b.table) k ≡ gate_of (state_of d.table) k

@@ -51,12 +51,12 @@ cuts step p = record { one = (cut step p.one.0, cut step p.one.1); two = (cut st
 -- a board, over a make m of stage
 module _ {S : Type 0} (m : Ghosts S) where
   -- the board came to be, from a new one, by the acts of h
-  pub record Came (h : List Act) (b : Board S) : Type 0 where
+  pub record Came (h : List Act) (b : Board S m) : Type 0 where
     pub state : state_of b.table ≡ state_after h
     pub pairs : m.pairs b.stage ≡ cuts m.step (given_after h)
 
   -- the pairs that are shown after an act
-  abbrev pub pairs_after : Board S → Act → Pairs
+  abbrev pub pairs_after : Board S m → Act → Pairs
   pairs_after b (act_cycle i j) = cuts m.step (given (state_of b.table) (act_cycle i j) dark)
   pairs_after b act_reset = dark
   pairs_after b (act_command x) = m.pairs b.stage
@@ -65,12 +65,12 @@ module _ {S : Type 0} (m : Ghosts S) where
   pairs_after b act_take = m.pairs b.stage
   pairs_after b (act_close k w) = m.pairs b.stage
 
-  pub record Same (b c : Board S) : Type 0 where
+  pub record Same (b c : Board S m) : Type 0 where
     pub state : state_of c.table ≡ state_of b.table
     pub pairs : m.pairs c.stage ≡ m.pairs b.stage
 
   -- the act a, answered by x, makes c of the board b
-  pub record Did (a : Act) (x : Answer) (b c : Board S) : Type 0 where
+  pub record Did (a : Act) (x : Answer) (b c : Board S m) : Type 0 where
     pub says : x ≡ answer (state_of b.table) a
     pub state : state_of c.table ≡ after (state_of b.table) a
     pub pairs : m.pairs c.stage ≡ pairs_after b a

@@ -46,7 +46,7 @@ none true h = sym h
 none false h = refl
 
 -- gate k's places at the two desks: x is the mark at the first desk's board, and the close is made at the second desk's
-module _ {R : Type 0} (n : Ghosts R) (k w : ℕ) (l : k < 2) (x : Bool) (b c : Board R) where
+module _ {R : Type 0} (n : Ghosts R) (k w : ℕ) (l : k < 2) (x : Bool) (b c : Board R n) where
   module _ (mine last theirs left : Option Slip) (h : held_for k mine x ≡ true) where
     -- the slip that is closed is of gate k, and the mark at its own desk's board is set
     kept : (s : Slip) → mine ≡ Some s → held_for k (Some s) x ≡ true
@@ -79,7 +79,7 @@ module _ {R : Type 0} (n : Ghosts R) (k w : ℕ) (l : k < 2) (x : Bool) (b c : B
     rest_after (Some (Ok u)) m = ap (λ z. (gate_of z (1 - k)).slip) (accepted m.0 m.1 m.2) ∙ other_mark (state_of b.table) w k l
     rest_after (Some (Err e)) m = ap (λ z. (gate_of z (1 - k)).slip) (stayed m.0 e m.1 m.2)
 
-    pub ends : {S : Type 0} (o : Ghosts S) (a : Board S) (gate : ℕ) → is_gate gate ≡ true → k ≡ gate - 1 → (gate_of (state_of a.table) (gate - 1)).slip ≡ x → (r : Option (Result (Unit {0}) Refusal)) → Moved n w r b c mine last theirs left → Elsewhere o n gate w r a a b c
+    pub ends : {S : Type 0} (o : Ghosts S) (a : Board S o) (gate : ℕ) → is_gate gate ≡ true → k ≡ gate - 1 → (gate_of (state_of a.table) (gate - 1)).slip ≡ x → (r : Option (Result (Unit {0}) Refusal)) → Moved n w r b c mine last theirs left → Elsewhere o n gate w r a a b c
     ends o a gate g e mark None m = (
       λ _. mark ∙ none x (ap (λ p. held_for k p x) (sym m.0) ∙ h),
       record { state = refl; pairs = refl },

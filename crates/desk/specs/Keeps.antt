@@ -1,5 +1,6 @@
 -- The slips that a desk keeps for a board.
 use Rattle.std.specs.Prelude.{ℕ, Bool, not, ◌&&◌, Some, None, Option, ◌==◌}
+use Rattle.stage.specs.declared.Stage.{Ghosts}
 use Rattle.board.specs.declared.board.Board.{Board}
 use Rattle.board.specs.declared.slip.Slip.{Slip}
 use Rattle.board.specs.Acts.{State, state_of}
@@ -12,5 +13,5 @@ held_for k None out = not out
 abbrev pub state_keeps : State → Option Slip → Option Slip → Bool
 state_keeps s first second = held_for 0 first s.one.slip && held_for 1 second s.two.slip
 
-abbrev pub keeps : {S : Type 0} → Board S → Option Slip → Option Slip → Bool
+abbrev pub keeps : {S : Type 0} {m : Ghosts S} → Board S m → Option Slip → Option Slip → Bool
 keeps b first second = state_keeps (state_of b.table) first second

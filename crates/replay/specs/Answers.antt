@@ -8,7 +8,7 @@ use Rattle.replay.specs.declared.answer.Answer.TheVariants.{Accepted, Refused, W
 use Rattle.replay.specs.Numbers.{two_bytes}
 use Rattle.replay.specs.Looks.{look_bytes}
 
-abbrev pub answer_bytes : {S : Type 0} → Ghosts S → Answer → Board S → List ℕ
+abbrev pub answer_bytes : {S : Type 0} (m : Ghosts S) → Answer → Board S m → List ℕ
 answer_bytes m Accepted b = 0 ∷ []
 answer_bytes m (Refused e) b = number e ∷ []
 answer_bytes m (Word w) b = 0x10 ∷ two_bytes w

@@ -67,7 +67,7 @@ record_bytes g =
     ++ (motion_bytes g.motion ++ (signed_four g.actual ++ (breakpoint_bytes g.breakpoint ++ flags_bytes g))))))
 
 -- the byte that says a look, the pairs, the record of gate 1, that of gate 2
-abbrev pub look_bytes : {S : Type 0} → Ghosts S → Board S → List ℕ
+abbrev pub look_bytes : {S : Type 0} (m : Ghosts S) → Board S m → List ℕ
 look_bytes m b =
     0x13 ∷ (pair_bytes (m.pairs b.stage).one ++ (pair_bytes (m.pairs b.stage).two
     ++ (record_bytes (state_of b.table).one ++ record_bytes (state_of b.table).two)))

@@ -30,11 +30,11 @@ cycles n = replicate n (act_cycle still still)
 
 -- the entry's own board goes from a to c, the other one from b to d
 module _ {S : Type 0} (m : Ghosts S) where
-  abbrev pub Acted : Act → Answer → Board S → Board S → Type 0
+  abbrev pub Acted : Act → Answer → Board S m → Board S m → Type 0
   Acted act r a c = (x : own.Answer) × (r ≡ told x) × Did m act x a c
 
   -- the slip of that gate was there and is closed, or it was not there
-  abbrev pub Closes : Closing → Answer → Board S → Board S → Type 0
+  abbrev pub Closes : Closing → Answer → Board S m → Board S m → Type 0
   Closes k reply.Accepted a c = Closed m k.gate k.word true a c
   Closes k (reply.Refused e) a c = ⊥
   Closes k (reply.Word w) a c = ⊥
@@ -43,7 +43,7 @@ module _ {S : Type 0} (m : Ghosts S) where
   Closes k reply.Look a c = ⊥
 
 module _ {S R : Type 0} (m : Ghosts S) (n : Ghosts R) where
-  abbrev pub Crosses : Closing → Answer → Board S → Board S → Board R → Board R → Type 0
+  abbrev pub Crosses : Closing → Answer → Board S m → Board S m → Board R n → Board R n → Type 0
   Crosses k reply.Accepted a c b d = Elsewhere m n k.gate k.word (Some (Ok tt)) a c b d
   Crosses k (reply.Refused e) a c b d = Elsewhere m n k.gate k.word (Some (Err e)) a c b d
   Crosses k (reply.Word w) a c b d = ⊥
@@ -51,7 +51,7 @@ module _ {S R : Type 0} (m : Ghosts S) (n : Ghosts R) where
   Crosses k reply.NoSlip a c b d = Elsewhere m n k.gate k.word None a c b d
   Crosses k reply.Look a c b d = ⊥
 
-  abbrev pub Plays : Entry → Answer → Board S → Board S → Board R → Board R → Type 0
+  abbrev pub Plays : Entry → Answer → Board S m → Board S m → Board R n → Board R n → Type 0
   Plays (Command code) r a c b d = Acted m (act_command code) r a c × (d ≡ b)
   Plays (Write w) r a c b d = Acted m (act_write w) r a c × (d ≡ b)
   Plays Read r a c b d = Acted m act_read r a c × (d ≡ b)

@@ -16,27 +16,27 @@ accepted (slipped k) = true
 
 module _ {S : Type 0} (m : Ghosts S) where
   -- board b becomes d by acts that are answered in turn
-  abbrev pub Through : List Act → List Answer → Board S → Board S → Type 0
+  abbrev pub Through : List Act → List Answer → Board S m → Board S m → Type 0
   Through [] [] b d = b ≡ d
   Through [] (x ∷ xs) b d = ⊥
   Through (a ∷ acts) [] b d = ⊥
-  Through (a ∷ acts) (x ∷ xs) b d = (c : Board S) × Did m a x b c × Through acts xs c d
+  Through (a ∷ acts) (x ∷ xs) b d = (c : Board S m) × Did m a x b c × Through acts xs c d
 
   -- the acts up to one that is refused, which is the last one made
-  abbrev pub Stopped : List Act → Refusal → Board S → Board S → Type 0
+  abbrev pub Stopped : List Act → Refusal → Board S m → Board S m → Type 0
   Stopped [] e b d = ⊥
-  Stopped (a ∷ acts) e b d = Did m a (refused e) b d ⊎ ((c : Board S) × (x : Answer) × (accepted x ≡ true) × Did m a x b c × Stopped acts e c d)
+  Stopped (a ∷ acts) e b d = Did m a (refused e) b d ⊎ ((c : Board S m) × (x : Answer) × (accepted x ≡ true) × Did m a x b c × Stopped acts e c d)
 
-  abbrev pub Sent : List Act → Result (Unit {0}) Refusal → Board S → Board S → Type 0
+  abbrev pub Sent : List Act → Result (Unit {0}) Refusal → Board S m → Board S m → Type 0
   Sent acts (Ok _) b d = Through acts (map (λ _. done) acts) b d
   Sent acts (Err e) b d = Stopped acts e b d
 
   -- a word that a read command gives
-  abbrev pub FetchedWord : ℕ → Result ℕ Refusal → Board S → Board S → Type 0
+  abbrev pub FetchedWord : ℕ → Result ℕ Refusal → Board S m → Board S m → Type 0
   FetchedWord code (Ok w) b d = Through (act_command code ∷ (act_read ∷ [])) (done ∷ (gave w ∷ [])) b d
   FetchedWord code (Err e) b d = Stopped (act_command code ∷ (act_read ∷ [])) e b d
 
   -- a number of two words that a read command gives, the high one first
-  abbrev pub FetchedLong : ℕ → Result ℕ Refusal → Board S → Board S → Type 0
+  abbrev pub FetchedLong : ℕ → Result ℕ Refusal → Board S m → Board S m → Type 0
   FetchedLong code (Ok n) b d = (high : ℕ) × (low : ℕ) × (n ≡ high * 65536 + low) × Through (act_command code ∷ (act_read ∷ (act_read ∷ []))) (done ∷ (gave high ∷ (gave low ∷ []))) b d
   FetchedLong code (Err e) b d = Stopped (act_command code ∷ (act_read ∷ (act_read ∷ []))) e b d

@@ -63,11 +63,11 @@ still = act_cycle (record { count = pos 0; positive = false; negative = false; h
 
 module _ {S : Type 0} (m : Ghosts S) where
   -- the pairs that the stage shows
-  abbrev pub Shows : Board S → Reply → Type 0
+  abbrev pub Shows : Board S m → Reply → Type 0
   Shows b r = r ≡ Pairs (pair_of (m.pairs b.stage) 1) (pair_of (m.pairs b.stage) 2)
 
   -- the packet of a command that takes no word, by the code n of the command
-  abbrev pub Plain : Command → ℕ → Reply → Board S → Board S → Type 0
+  abbrev pub Plain : Command → ℕ → Reply → Board S m → Board S m → Type 0
   Plain (command.Status whose) n r b d = (x : Result ℕ Refusal) × (r ≡ word_or x) × FetchedWord m n x b d
   Plain (command.Ask q) n r b d = (x : Result ℕ Refusal) × (r ≡ long_or q x) × FetchedLong m n x b d
   Plain (command.Now o) n r b d = Did m (act_command n) (said r) b d
@@ -76,16 +76,16 @@ module _ {S : Type 0} (m : Ghosts S) where
   Plain command.MultiUpdate n r b d = Did m (act_command n) (said r) b d
 
   -- the whole packet of a command, by the code n of the command
-  abbrev pub Whole : Packet → ℕ → Reply → Board S → Board S → Type 0
+  abbrev pub Whole : Packet → ℕ → Reply → Board S m → Board S m → Type 0
   Whole (packet.Plain c) n r b d = (code_table n ≡ Some c) × Plain c n r b d
   Whole (packet.Word c w) n r b d = (code_table n ≡ Some c) × ((x : Result (Unit {0}) Refusal) × (r ≡ done_or x) × Sent m (act_command n ∷ (act_write w ∷ [])) x b d)
   Whole (packet.Long c v) n r b d = (code_table n ≡ Some c) × ((x : Result (Unit {0}) Refusal) × (r ≡ done_or x) × Sent m (act_command n ∷ (act_write (v / 65536) ∷ (act_write (v % 65536) ∷ []))) x b d)
 
   -- so many cycles with nothing active
-  abbrev pub Ran : ℕ → Board S → Board S → Type 0
+  abbrev pub Ran : ℕ → Board S m → Board S m → Type 0
   Ran n b d = (h : List Act) → Came m h b → Came m (replicate n still ++ h) d
 
-  abbrev pub Played : Line → Option Reply → Board S → Board S → Type 0
+  abbrev pub Played : Line → Option Reply → Board S m → Board S m → Type 0
   Played line.Nothing None b d = Same m b d
   Played line.Nothing (Some r) b d = ⊥
   Played (line.Board side) None b d = Same m b d

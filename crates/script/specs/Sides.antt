@@ -11,15 +11,15 @@ use Rattle.script.specs.Plays.{Played}
 
 module _ {S R : Type 0} (m : Ghosts S) (n : Ghosts R) where
   -- the line is played on one board, and the other stays
-  abbrev pub PlayedAt : Side → Line → Option Reply → Boards S R → Boards S R → Type 0
+  abbrev pub PlayedAt : Side → Line → Option Reply → Boards S R m n → Boards S R m n → Type 0
   PlayedAt A l r x y = Played m l r x.a.board y.a.board × (y.b ≡ x.b) × (y.current ≡ x.current)
   PlayedAt B l r x y = Played n l r x.b.board y.b.board × (y.a ≡ x.a) × (y.current ≡ x.current)
 
   -- a line that names a board only turns to it
-  abbrev pub Turned : Side → Option Reply → Boards S R → Boards S R → Type 0
+  abbrev pub Turned : Side → Option Reply → Boards S R m n → Boards S R m n → Type 0
   Turned side r x y = (r ≡ None) × (y.current ≡ side) × (y.a ≡ x.a) × (y.b ≡ x.b)
 
-  abbrev pub Went : Line → Option Reply → Boards S R → Boards S R → Type 0
+  abbrev pub Went : Line → Option Reply → Boards S R m n → Boards S R m n → Type 0
   Went (line.Board side) r x y = Turned side r x y
   Went line.Nothing r x y = PlayedAt x.current line.Nothing r x y
   Went (line.Command c) r x y = PlayedAt x.current (line.Command c) r x y

@@ -7,7 +7,7 @@ pub command-requires : goal.command-requires
 command-requires g c = fit_from c.args.self.now.table c.args.self.now.fit
 
 pub invariant_of-self : goal.invariant_of-self
-invariant_of-self g c = (fit_to c.command.new.self c.command.ensures.fit, tt)
+invariant_of-self g c = record { fit = fit_to c.command.new.self c.command.ensures.fit }
 
 pub returns : goal.returns
 returns g c = did _ _ _ _ _ c.command.ensures.answer c.command.ensures.state refl

@@ -11,7 +11,7 @@ pub cycle-requires : goal.cycle-requires
 cycle-requires g c = fit_from c.args.self.now.table c.args.self.now.fit
 
 pub invariant_of-self : goal.invariant_of-self
-invariant_of-self g c = (fit_to c.cycle.new.self c.cycle.ensures.fit, tt)
+invariant_of-self g c = record { fit = fit_to c.cycle.new.self c.cycle.ensures.fit }
 
 pub returns : goal.returns
 returns g c =

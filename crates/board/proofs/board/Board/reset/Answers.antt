@@ -8,7 +8,7 @@ pub reset-requires : goal.reset-requires
 reset-requires g c = fit_from c.args.self.now.table c.args.self.now.fit
 
 pub invariant_of-self : goal.invariant_of-self
-invariant_of-self g c = (fit_to c.reset.new.self c.reset.ensures.fit, tt)
+invariant_of-self g c = record { fit = fit_to c.reset.new.self c.reset.ensures.fit }
 
 pub returns : goal.returns
 returns g c =

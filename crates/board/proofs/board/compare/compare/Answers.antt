@@ -3,7 +3,7 @@ use Rattle.board.proofs.board.compare.compare.Goals as goal
 
 pub returns : goal.returns
 returns g c = record {
-  is = c.of-gate.ensures;
+  is = c.of_gate.ensures;
   isolated = isolated _ _ _ _ g.met.S.Stage.range.0 g.met.R.Stage.range.0;
   booked = booked_board _ _;
   other = booked_board _ _;

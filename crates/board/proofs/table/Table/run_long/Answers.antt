@@ -14,9 +14,9 @@ returns c =
     record {
       answer =
           c.numbered.ensures
-          ∙ (ap heard_range (c.run-long.ensures.answer ∙ ap (long_answer o) v) ∙ heard_answer (long_fits o (joined c.args.high c.args.low)));
+          ∙ (ap heard_range (c.run_long.ensures.answer ∙ ap (long_answer o) v) ∙ heard_answer (long_fits o (joined c.args.high c.args.low)));
       state =
-          entered t _ t.current e c.run-long.new.self (search rules) c.requires.current refl
-          (c.run-long.ensures.is ∙ ap (λ n. ran_long o n (get_or t.gates t.current blank)) v) refl refl;
-      fit = fit_set t _ t.current c.run-long.new.self c.requires (c.run-long.ensures.sound (sound_at t t.current c.requires.current c.requires)) refl c.requires.current;
+          entered t _ t.current e c.run_long.new.self (search rules) c.requires.current refl
+          (c.run_long.ensures.is ∙ ap (λ n. ran_long o n (get_or t.gates t.current blank)) v) refl refl;
+      fit = fit_set t _ t.current c.run_long.new.self c.requires (c.run_long.ensures.sound (sound_at t t.current c.requires.current c.requires)) refl c.requires.current;
     }
