@@ -6,5 +6,5 @@ pub returns : goal.returns
 returns c =
     let b = c.args.breakpoint in
     both (being c.put.ensures (ap (λ x. x ∷ []) c.break_byte.ensures))
-    (both (being c.put-2.ensures c.to-be-bytes.ensures)
+    (both (being c.put-2.ensures c.to_be_bytes.ensures)
     (being c.put-3.ensures (ap (λ x. x ∷ []) (c.from.ensures ∙ flag_is b.auto))))

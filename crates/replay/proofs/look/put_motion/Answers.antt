@@ -7,6 +7,6 @@ returns c =
     let m = c.args.motion in
     let a : SFits w64 c.args.motion.target = search rules in
     let b : SFits w32 c.args.motion.velocity = search rules in
-    both (being c.put.ensures (signed_8 m.target _ a c.to-be-bytes.ensures))
-    (both (being c.put-2.ensures (signed_4 m.velocity _ b c.to-be-bytes-2.ensures))
+    both (being c.put.ensures (signed_8 m.target _ a c.to_be_bytes.ensures))
+    (both (being c.put-2.ensures (signed_4 m.velocity _ b c.to_be_bytes-2.ensures))
     (being c.put-3.ensures (two (c.from.ensures ∙ flag_is m.halted) (c.from-2.ensures ∙ flag_is m.rested))))

@@ -6,4 +6,4 @@ pub returns : goal.returns
 returns c =
     let a : SFits w32 c.args.pair.0 = search rules in
     let b : SFits w32 c.args.pair.1 = search rules in
-    both (being c.put.ensures (signed_4 c.args.pair.0 _ a c.to-be-bytes.ensures)) (being c.put-2.ensures (signed_4 c.args.pair.1 _ b c.to-be-bytes-2.ensures))
+    both (being c.put.ensures (signed_4 c.args.pair.0 _ a c.to_be_bytes.ensures)) (being c.put-2.ensures (signed_4 c.args.pair.1 _ b c.to_be_bytes-2.ensures))

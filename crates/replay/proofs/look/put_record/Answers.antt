@@ -6,10 +6,10 @@ pub returns : goal.returns
 returns c =
     let g = c.args.gate.now in
     let a : SFits w32 c.args.gate.now.actual = search rules in
-    both c.put-profile.ensures
-    (both c.put-profile-2.ensures
-    (both (being c.put.ensures c.to-be-bytes.ensures)
-    (both (being c.put-2.ensures c.to-be-bytes-2.ensures)
-    (both c.put-motion.ensures
-    (both (being c.put-3.ensures (signed_4 g.actual _ a c.to-be-bytes-3.ensures))
-    (both c.put-breakpoint.ensures c.put-flags.ensures))))))
+    both c.put_profile.ensures
+    (both c.put_profile-2.ensures
+    (both (being c.put.ensures c.to_be_bytes.ensures)
+    (both (being c.put-2.ensures c.to_be_bytes-2.ensures)
+    (both c.put_motion.ensures
+    (both (being c.put-3.ensures (signed_4 g.actual _ a c.to_be_bytes-3.ensures))
+    (both c.put_breakpoint.ensures c.put_flags.ensures))))))

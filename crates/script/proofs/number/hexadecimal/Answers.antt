@@ -9,6 +9,6 @@ no_plus bs h = ap (λ b. drop (cond b 1 0) bs) (ne_eqb (get_or bs 0 0) 43 (λ e.
 pub returns-in-Ok : goal.returns-in-Ok
 returns-in-Ok c =
     let ds = c.args.digits.now in
-    let plain = no_plus ds (starts_char 43 ds false c.if-starts-with.ensures.cases (lit< tt) (lit< tt)) in
+    let plain = no_plus ds (starts_char 43 ds false c.if-starts_with.ensures.cases (lit< tt) (lit< tt)) in
     let reads = rw plain at c.in-Ok.ensures.value in
     search rules

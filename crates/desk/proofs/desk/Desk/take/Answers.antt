@@ -8,7 +8,7 @@ use Rattle.desk.proofs.desk.Desk.take.Goals as goal
 pub invariant_of-self : goal.invariant_of-self
 invariant_of-self g c =
     let d = c.args.self.now in
-    (keeps_none (state_of d.board.table) d.first d.second d.kept _ _ c.in_err-slip.ensures.did.says c.take.ensures.did.state, tt)
+    record { kept = keeps_none (state_of d.board.table) d.first d.second d.kept _ _ c.in_err-slip.ensures.did.says c.take.ensures.did.state }
 
 pub put-requires : goal.put-requires
 put-requires g c =
@@ -21,11 +21,11 @@ invariant_of-self-then-gate-eq1 g c =
     let d = c.args.self.now in
     let s = c.in_ok-slip.slip in
     let k : s.gate ≡ 0 = omega arith in
-    let z = state_of c.take.new.self.table in (
-      ap (λ o. state_keeps z o d.second) c.put.ensures
-          ∙ keeps_first (state_of d.board.table) d.first d.second d.kept z s k (ap slipped (sym k) ∙ c.in_ok-slip.ensures.did.says) c.take.ensures.did.state,
-      tt,
-    )
+    let z = state_of c.take.new.self.table in
+    record {
+      kept = ap (λ o. state_keeps z o d.second) c.put.ensures
+          ∙ keeps_first (state_of d.board.table) d.first d.second d.kept z s k (ap slipped (sym k) ∙ c.in_ok-slip.ensures.did.says) c.take.ensures.did.state;
+    }
 
 pub put-requires-else-gate-eq1 : goal.put-requires-else-gate-eq1
 put-requires-else-gate-eq1 g c =
@@ -38,8 +38,8 @@ invariant_of-self-else-gate-eq1 g c =
     let d = c.args.self.now in
     let s = c.in_ok-slip.slip in
     let k : s.gate ≡ 1 = omega (arith, s.known) in
-    let z = state_of c.take.new.self.table in (
-      ap (λ o. state_keeps z d.first o) c.put-else-gate-eq1.ensures
-          ∙ keeps_second (state_of d.board.table) d.first d.second d.kept z s k (ap slipped (sym k) ∙ c.in_ok-slip.ensures.did.says) c.take.ensures.did.state,
-      tt,
-    )
+    let z = state_of c.take.new.self.table in
+    record {
+      kept = ap (λ o. state_keeps z d.first o) c.put-else-gate-eq1.ensures
+          ∙ keeps_second (state_of d.board.table) d.first d.second d.kept z s k (ap slipped (sym k) ∙ c.in_ok-slip.ensures.did.says) c.take.ensures.did.state;
+    }

@@ -11,16 +11,16 @@ invariant_of-other-in-2 g c =
     let own = c.args.own.now in
     let other = c.args.other.now in
     let o = state_of own.board.table in
-    let call = c.close-at-in-2 in
+    let call = c.close_at-in-2 in
     let second = theirs_after g.R.Stage 1 c.args.word (lit< tt) o.two.slip other.board call.new.board own.second call.new.mine other.second call.new.theirs (snd _ _ own.kept) call.result call.ensures (snd _ _ other.kept) in
     let mark = rest_after g.R.Stage 1 c.args.word (lit< tt) o.two.slip other.board call.new.board own.second call.new.mine other.second call.new.theirs (snd _ _ own.kept) call.result call.ensures in
-    (both _ _ (ap (λ v. held_for 0 other.first v) mark ∙ fst _ _ other.kept) second, tt)
+    record { kept = both _ _ (ap (λ v. held_for 0 other.first v) mark ∙ fst _ _ other.kept) second }
 
 pub returns-in-2 : goal.returns-in-2
 returns-in-2 g c =
     let own = c.args.own.now in
     let other = c.args.other.now in
     let o = state_of own.board.table in
-    let call = c.close-at-in-2 in
+    let call = c.close_at-in-2 in
     subst (λ gate. Elsewhere g.S.Stage g.R.Stage gate c.args.word call.result own.board own.board other.board call.new.board) (sym c.in-2.is)
     (ends g.R.Stage 1 c.args.word (lit< tt) o.two.slip other.board call.new.board own.second call.new.mine other.second call.new.theirs (snd _ _ own.kept) g.S.Stage own.board 2 refl refl refl call.result call.ensures)
