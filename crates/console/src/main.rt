@@ -1,8 +1,10 @@
 // Shows a move of one gate cycle by cycle, or commissions a motor's windings.
 #![tactic(auto)]
 
+use anyhow::anyhow;
 use stage::wiring::Wire;
 use std::env;
+use std::process::ExitCode;
 use travel::journey::Journey;
 use travel::plan::Plan;
 use travel::{plan, row};
@@ -82,16 +84,16 @@ fn run(rt: &HostRuntime) -> anyhow::Result<()> {
     match task.as_str() {
         "move" => follow(rt, plan(rest)?),
         "windings" => commission(rt, settings(rest)?),
-        _ => Err(USAGE.into()),
+        _ => Err(anyhow!("{USAGE}")),
     }
 }
 
-fn main(rt: HostRuntime) -> anyhow::Result<()> {
+fn main(rt: HostRuntime) -> ExitCode {
     match run(&rt) {
-        Ok(()) => Ok(()),
+        Ok(()) => ExitCode::SUCCESS,
         Err(error) => {
-            eprintln!(rt; "console: {error}")?;
-            Err(error)
+            let _told = eprintln!(rt; "console: {error}");
+            ExitCode::FAILURE
         }
     }
 }

@@ -107,23 +107,23 @@ fn with_makes(rt: &HostRuntime, makes: (Make, Make), words: &[String]) -> anyhow
             if path == "-" {
                 from_input(rt, makes)
             } else if path.starts_with("--") {
-                Err(USAGE.into())
+                Err(anyhow!("{USAGE}"))
             } else {
                 from_file(rt, makes, path)
             }
         }
-        _ => Err(USAGE.into()),
+        _ => Err(anyhow!("{USAGE}")),
     }
 }
 
 // Two boards, by the arguments behind their stages.
 fn with_stages(rt: &HostRuntime, words: &[String]) -> anyhow::Result<()> {
     let [names, rest @ ..] = words else {
-        return Err(USAGE.into());
+        return Err(anyhow!("{USAGE}"));
     };
     match makes_from(names.as_str()) {
         Some(makes) => with_makes(rt, makes, rest),
-        None => Err(USAGE.into()),
+        None => Err(anyhow!("{USAGE}")),
     }
 }
 

@@ -5,12 +5,12 @@ use Rattle.script.proofs.packet.fetch_long.Goals as goal
 
 pub returns-in_err-high : goal.returns-in_err-high
 returns-in_err-high g c =
-    let p = err_from_is_err_and c.from-residual-in_err-high.result c.from-residual-in_err-high.ensures.1 in
+    let p = err_from_is_err_and c.from_residual-in_err-high.result c.from_residual-in_err-high.ensures.1 in
     rw (p.1, p.2) (inr (c.command.new.self.board, done, refl, c.in_ok-command.ensures, inl c.in_err-high.ensures))
 
 pub returns-in_err-low : goal.returns-in_err-low
 returns-in_err-low g c =
-    let p = err_from_is_err_and c.from-residual-in_err-low.result c.from-residual-in_err-low.ensures.1 in
+    let p = err_from_is_err_and c.from_residual-in_err-low.result c.from_residual-in_err-low.ensures.1 in
     rw (p.1, p.2)
     (inr (c.command.new.self.board, done, refl, c.in_ok-command.ensures, inr (c.read.new.self.board, gave c.in_ok-high.high, refl, c.in_ok-high.ensures, inl c.in_err-low.ensures)))
 

@@ -6,7 +6,7 @@ use Rattle.script.proofs.packet.send_long.Goals as goal
 
 pub returns-in_err-write : goal.returns-in_err-write
 returns-in_err-write g c =
-    let p = err_from_is_err_and c.from-residual-in_err-write.result c.from-residual-in_err-write.ensures.1 in
+    let p = err_from_is_err_and c.from_residual-in_err-write.result c.from_residual-in_err-write.ensures.1 in
     rw (p.1, p.2) (inr (c.command.new.self.board, done, refl, c.in_ok-command.ensures, inl c.in_err-write.ensures))
 
 pub returns : goal.returns

@@ -7,9 +7,9 @@ pub loop-turn-init : goal.loop-turn-init
 loop-turn-init g c h came = came
 
 pub loop-turn-preserved : goal.loop-turn-preserved
-loop-turn-preserved g c h came = rw add-one (c.cycle.ensures.came (replicate c.loop-turn.-turn still ++ h) (c.loop-turn.invariant h came))
+loop-turn-preserved g c h came = rw add-one (c.cycle.ensures.came (replicate c.loop-turn._turn still ++ h) (c.loop-turn.invariant h came))
 
 pub returns : goal.returns
 returns g c h came =
-    let n : c.loop-turn.-turn ≡ c.args.cycles = omega arith in
+    let n : c.loop-turn._turn ≡ c.args.cycles = omega arith in
     rw n at (c.loop-turn.invariant h came)
