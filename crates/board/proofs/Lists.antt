@@ -3,10 +3,6 @@ use Rattle.std.proofs.Common.{◌≡◌, ℕ, ◌<◌, Bool, true, false, cond, 
 use Rattle.stage.specs.Pairs.{Pair, dark}
 use Rattle.gate.specs.declared.gate.Gate.{Gate}
 use Rattle.gate.specs.declared.orders.Order.TheVariants.{Update}
-use Rattle.gate.specs.declared.orders.WordOrder.{WordOrder}
-use Rattle.gate.specs.declared.orders.WordOrder.TheVariants as word
-use Rattle.gate.specs.declared.orders.LongOrder.{LongOrder}
-use Rattle.gate.specs.declared.orders.LongOrder.TheVariants as long
 use Rattle.gate.specs.Cycles.{shows}
 use Rattle.gate.specs.Gates.{fresh}
 use Rattle.gate.specs.Orders.{word_fits, long_fits}

@@ -1,16 +1,15 @@
 -- Which acts leave the slip marks alone.
-use Rattle.std.proofs.Common.{◌≡◌, ℕ, Bool, true, false, cond, eqb, ltb, [], ◌∷◌, Some, None, Option, sym, refl, ap, ◌∙◌}
+use Rattle.std.proofs.Common.{◌≡◌, ℕ, Bool, true, false, cond, eqb, ltb, [], ◌∷◌, Some, None, Option, refl, ap, ◌∙◌}
 use Rattle.gate.specs.declared.gate.Gate.{Gate}
-use Rattle.gate.specs.declared.inputs.Inputs.{Inputs}
 use Rattle.gate.specs.declared.orders.Order.{Order}
 use Rattle.gate.specs.declared.orders.Order.TheVariants.{Mode, Stop, Update, Auto, Break, Motor}
 use Rattle.gate.specs.declared.orders.WordOrder.{WordOrder}
 use Rattle.gate.specs.declared.orders.WordOrder.TheVariants as word
 use Rattle.gate.specs.declared.orders.LongOrder.{LongOrder}
 use Rattle.gate.specs.declared.orders.LongOrder.TheVariants as long
-use Rattle.gate.specs.Cycles.{clocked, encoded, tripped, meets, marked, cycled}
+use Rattle.gate.specs.Cycles.{clocked, encoded, tripped, meets, marked}
 use Rattle.gate.specs.Gates.{erred, latched}
-use Rattle.gate.specs.Orders.{ran, ran_word, ran_long, word_run, word_fits, long_run, long_fits}
+use Rattle.gate.specs.Orders.{ran, word_run, word_fits, long_run, long_fits}
 use Rattle.board.specs.declared.command.Command.{Command}
 use Rattle.board.specs.declared.command.Command.TheVariants.{Status, Ask, Now, Word, Long, MultiUpdate}
 use Rattle.board.specs.declared.port.Port.{Port}
@@ -18,7 +17,7 @@ use Rattle.board.specs.declared.port.Port.TheVariants.{Idle, TakingWord, TakingH
 use Rattle.board.specs.declared.slip.Slip.{Slip}
 use Rattle.board.specs.Own.{Own, restart, tick, told, told_word, told_long, asked, viewed, taken, closed, step, replay, joined}
 use Rattle.board.specs.Commands.{decoded}
-use Rattle.board.specs.Acts.{State, Act, act_command, act_write, act_read, act_cycle, act_reset, act_take, act_close, Move, held, opens, enters, updates, unfit, gives, ticks, restarts, entries, enters_if, whose, starts, on_command, on_write, on_read, move, moved, after, counts}
+use Rattle.board.specs.Acts.{State, Act, act_command, act_write, act_read, act_cycle, act_reset, act_take, act_close, Move, held, opens, enters, updates, unfit, gives, ticks, restarts, entries, enters_if, whose, starts, on_command, on_write, on_read, move, after, counts}
 use Rattle.desk.specs.Keeps.{state_keeps}
 
 -- entries that are no slip's

@@ -4,7 +4,7 @@ use Rattle.gate.specs.Queries.{calling}
 use Rattle.board.specs.declared.slip.Slip.{Slip}
 use Rattle.board.specs.declared.refusal.Refusal.{Refusal}
 use Rattle.board.specs.Own.{taken, slipped, refused}
-use Rattle.board.specs.Acts.{State, lendable, enters, enters_if, moved, after, answer, act_take}
+use Rattle.board.specs.Acts.{State, enters, enters_if, moved, after, answer, act_take}
 use Rattle.board.proofs.Slips.{taken_gate, taken_none}
 use Rattle.desk.specs.Keeps.{held_for, state_keeps}
 

@@ -1,5 +1,5 @@
 -- Packets that were sent or fetched, act by act.
-use Rattle.std.proofs.Common.{◌≡◌, ℕ, [], ◌∷◌, Ok, Err, Result, refl, inl, inr}
+use Rattle.std.proofs.Common.{ℕ, [], ◌∷◌, Ok, Err, Result, refl, inl, inr}
 use Rattle.stage.specs.declared.Stage.{Ghosts}
 use Rattle.board.specs.declared.board.Board.{Board}
 use Rattle.board.specs.declared.refusal.Refusal.{Refusal}

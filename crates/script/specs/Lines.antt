@@ -1,12 +1,8 @@
 -- How lines of a script are written, word by word.
-use Rattle.std.specs.Prelude.{◌≡◌, ℕ, ◌^◌, ◌<◌, Bool, true, false, ◌⊎◌, List, [], ◌∷◌, length, ℤ, pos, Some, Ok, Err, codes, Result, ◌≢◌, slice_index}
+use Rattle.std.specs.Prelude.{◌≡◌, ℕ, ◌<◌, Bool, true, false, ◌⊎◌, List, length, ℤ, pos, Some, codes, ◌≢◌, slice_index}
 use Rattle.gate.specs.declared.inputs.Inputs.{Inputs}
 use Rattle.board.specs.declared.command.Command.{Command}
-use Rattle.board.specs.Commands.{code_table, takes}
-use Rattle.script.specs.declared.fault.Expected.{Expected}
-use Rattle.script.specs.declared.line.Line.{Line}
-use Rattle.script.specs.declared.line.Line.TheVariants.{Nothing, Board, Command as Code, Write, Read, Cycle, Run, Reset, Take, Close, Pairs, Packet}
-use Rattle.script.specs.declared.line.Packet.TheVariants as packet
+use Rattle.board.specs.Commands.{code_table}
 use Rattle.script.specs.declared.line.Side.{Side}
 use Rattle.script.specs.declared.line.Side.TheVariants.{A, B}
 use Rattle.script.specs.Mnemonics.{mnemonic}

@@ -4,8 +4,6 @@ use Rattle.std.specs.Int.{w32}
 use Rattle.std.proofs.Common.{to_z}
 use Rattle.stage.specs.declared.Stage.{Ghosts}
 use Rattle.stage.specs.Pairs.{pair_of}
-use Rattle.gate.specs.declared.inputs.Inputs.{Inputs}
-use Rattle.gate.specs.declared.orders.Order.{Order}
 use Rattle.gate.specs.declared.queries.Query.{Query}
 use Rattle.gate.specs.declared.queries.Query.TheVariants.{Position, Velocity, Acceleration, TargetPosition, TargetVelocity, ActualPosition, CycleTime}
 use Rattle.board.specs.declared.board.Board.{Board}

@@ -1,4 +1,4 @@
-use Rattle.std.proofs.Common.{◌≡◌, ℕ, false, cond, eqb, List, get_or, drop, Decides, ap, arith, lit<, rules, ne_eqb}
+use Rattle.std.proofs.Common.{◌≡◌, ℕ, false, cond, List, get_or, drop, Decides, ap, arith, lit<, rules, ne_eqb}
 use Rattle.std.specs.Str.Parse.{without_leading_plus}
 use Rattle.std.proofs.lemmas.Str.Pattern.{starts_char}
 use Rattle.script.proofs.number.hexadecimal.Goals as goal

@@ -1,5 +1,4 @@
-use Rattle.std.proofs.Common.{◌≡◌, ◌++◌, replicate, ap, add-one, arith}
-use Rattle.board.specs.Runs.{Came}
+use Rattle.std.proofs.Common.{◌≡◌, ◌++◌, replicate, add-one, arith}
 use Rattle.script.specs.Plays.{still}
 use Rattle.script.proofs.play.run.Goals as goal
 

@@ -1,4 +1,4 @@
-use Rattle.std.proofs.Common.{is_some, Option, sym, ap, ◌∙◌, subst, rules}
+use Rattle.std.proofs.Common.{is_some, Option, sym, ap, subst}
 use Rattle.board.specs.declared.slip.Slip.{Slip}
 use Rattle.board.specs.Acts.{state_of}
 use Rattle.board.proofs.Slips.{taken_none, taken_out}

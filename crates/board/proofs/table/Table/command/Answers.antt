@@ -2,9 +2,7 @@ use Rattle.std.proofs.Common.{◌≡◌, get_or, Some, None, Option, ap, ◌∙�
 use Rattle.board.specs.declared.command.Command.{Command}
 use Rattle.board.specs.declared.port.Port.{Port}
 use Rattle.board.specs.declared.port.Port.TheVariants.{Idle, TakingWord, TakingHigh, TakingLow, TakingGates, Giving}
-use Rattle.board.specs.declared.port.Step.{Step}
 use Rattle.board.specs.declared.port.Step.TheVariants.{Start}
-use Rattle.board.specs.declared.table.Table.{Table}
 use Rattle.board.specs.Acts.{State, state_of, blank, starts, on_command, moved, says}
 use Rattle.board.specs.Commands.{decoded}
 use Rattle.board.specs.Ports.{command_step}

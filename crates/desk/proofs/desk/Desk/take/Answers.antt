@@ -1,5 +1,5 @@
 use Rattle.std.proofs.Common.{◌≡◌, sym, ap, ◌∙◌, arith}
-use Rattle.board.specs.Acts.{act_take, answer, state_of}
+use Rattle.board.specs.Acts.{state_of}
 use Rattle.board.specs.Own.{slipped}
 use Rattle.desk.specs.Keeps.{state_keeps}
 use Rattle.desk.proofs.Taken.{first_none, second_none, keeps_first, keeps_second, keeps_none}

@@ -1,4 +1,3 @@
-use Rattle.std.proofs.Common.{sym, ◌∙◌}
 use Rattle.std.proofs.lemmas.Bool.Decides.{Decides-at}
 use Rattle.gate.proofs.Equalities.{gate_decides}
 use Rattle.gate.proofs.gate.Gate.same.Goals as goal
