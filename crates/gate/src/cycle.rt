@@ -128,13 +128,11 @@ impl Gate {
         if self.motion.velocity != 0 {
             return false;
         }
-        if self.motion.halted || self.active.velocity == 0 {
-            return true;
-        }
-        match self.active.mode {
+        let arrived = match self.active.mode {
             ProfileMode::Velocity => false,
             ProfileMode::Trapezoidal => distance(self.active.destination, self.motion.target) == 0,
-        }
+        };
+        self.motion.halted || self.active.velocity == 0 || arrived
     }
 
     fn settle(&mut self)

@@ -42,6 +42,7 @@ mod tests {
     use crate::dac::Dac;
     use crate::pwm::Pwm;
     use crate::wiring::{Wire, Wiring};
+    use std::test::Fail;
 
     #[test]
     fn cuts_toward_zero(rt: HostRuntime) {
@@ -68,16 +69,19 @@ mod tests {
     }
 
     #[test]
-    fn pwm_lines(rt: HostRuntime) {
+    fn pwm_lines(rt: HostRuntime) -> Result<(), Fail> {
         let mut pwm = Pwm::new();
         pwm.show(1, -127, -32767);
-        let (a, b) = pwm.pulses(1).expect(&rt, "gate 1 has lines");
+        let Some((a, b)) = pwm.pulses(1) else {
+            return Err(Fail::new("gate 1 has lines"));
+        };
         assert_eq!(rt; a.magnitude, 0);
         assert_eq!(rt; a.negative, false);
         assert_eq!(rt; b.magnitude, 255);
         assert_eq!(rt; b.negative, true);
         assert_eq!(rt; pwm.pair(1), (0, -32640));
         assert!(rt; pwm.pulses(3).is_none());
+        Ok(())
     }
 
     #[test]
