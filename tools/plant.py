@@ -5,7 +5,7 @@
     python3 tools/plant.py board wiring_undo   those of some crates, or by their labels
     python3 tools/plant.py --room DIR ..       in a folder that is kept, with what each check said in DIR/said
 
-It works in a copy of the repository; run `rt check` first, since the copy takes over what target/ has of earlier checks.
+It works in a copy of the repository; run `rt all check` first, since the copy takes over what each crate's out/ has of earlier checks.
 """
 import os
 import re
@@ -45,30 +45,28 @@ def edited(text, pairs):
 
 
 def first_loss(said):
-    """The function and the need that were lost first, and whether a fact is lost, or only a name of a proof file, or the code has a form with no proof."""
+    """The function and the goal that were lost first, and whether a fact is lost, or only a name of a proof file, or the code has a form with no proof."""
     lost = re.findall(r"^(fn|struct|enum|impl) (\S+): (?:no proof|not proved)(.*)$", said, re.M)
     for _, function, why in sorted(lost, key=lambda one: one[0] != "fn"):
-        if "which is not proved" in why:
+        if re.search(r"which (?:is|are) not proved", why):
             continue
         if "does not cover" in why:
             return function, "", "form"
-        closes = re.search(r"does not close `([^`]*)`", why)
-        if closes:
-            return function, closes.group(1), "fact"
+        open_goal = re.search(r"^note: \S+: it is not proved .*?\(`([^`]*)`\)", said, re.M)
         error = re.search(r"^\S+: error: `([^`]*)`: (.*)$", said, re.M)
         if error:
             return function, error.group(1), "name" if LOST_NAME.search(error.group(2)) else "fact"
-        return function, "", "fact"
+        return function, open_goal.group(1) if open_goal else "", "fact"
     return "", "", ""
 
 
 def check(room, crate):
-    done = subprocess.run(["rt", "dev", crate], cwd=room, capture_output=True, text=True)
+    done = subprocess.run(["rt", "check"], cwd=os.path.join(room, "crates", crate), capture_output=True, text=True)
     said = done.stdout + done.stderr
     if done.returncode == 1 and re.search(r"^logic=not-proved", said, re.M):
-        function, need, kind = first_loss(said)
+        function, goal, kind = first_loss(said)
         if function:
-            return "refused", function, need, kind, said
+            return "refused", function, goal, kind, said
     if done.returncode == 0 and re.search(r"^logic=proved", said, re.M):
         return "SURVIVED", "", "", "", said
     return "bad edit", "", "", "", said
@@ -94,23 +92,21 @@ def main():
     kept = words[1] if words[:1] == ["--room"] else None
     words = words[2:] if kept else words
     room = kept or tempfile.mkdtemp(prefix="plant-")
-    for part in ("crates", "crates.txt", "target"):
+    for part in ("crates", "crates.txt"):
         there, here = os.path.join(ROOT, part), os.path.join(room, part)
-        if part == "target" and os.path.exists(here):
-            continue
         shutil.rmtree(here, ignore_errors=True)
         shutil.copytree(there, here) if os.path.isdir(there) else shutil.copy(there, here)
     os.makedirs(os.path.join(room, "said"), exist_ok=True)
     chosen = [p for p in plants(os.path.join(ROOT, "tools", "plants.txt")) if not words or p["crate"] in words or p["label"] in words]
     count = {"refused": 0, "SURVIVED": 0, "bad edit": 0}
-    print("| label | crate | outcome | lost first | need | what is lost |")
+    print("| label | crate | outcome | lost first | goal | what is lost |")
     print("|---|---|---|---|---|---|")
     for plant in chosen:
-        outcome, function, need, kind, said = tried(room, plant)
+        outcome, function, goal, kind, said = tried(room, plant)
         count[outcome] += 1
         with open(os.path.join(room, "said", plant["label"]), "w", encoding="utf-8") as f:
             f.write(said)
-        print(f"| {plant['label']} | {plant['crate']} | {outcome} | {function} | {need} | {kind} |", flush=True)
+        print(f"| {plant['label']} | {plant['crate']} | {outcome} | {function} | {goal} | {kind} |", flush=True)
     if not kept:
         shutil.rmtree(room)
     print(f"{len(chosen)} planted: {count['refused']} refused, {count['SURVIVED']} survived, {count['bad edit']} bad edits")
