@@ -1,6 +1,6 @@
 ghost use Rattle.std.specs.Prelude.{◌≡◌, true, false, is_some, None};
 ghost use Rattle.board.specs.Acts.{lendable, state_of};
-ghost use Rattle.service.specs.Turns.{InHand, Picked, Put};
+ghost use Rattle.service.specs.Turns.{InHand, InTurn, Picked, Put};
 
 use board::board::Board;
 use board::slip::Slip;
@@ -50,6 +50,7 @@ fn put<S: Stage + Drop>(board: &mut Board<S>, hand: &mut Option<Slip>, word: u16
 pub fn serve_in_turn<S: Stage + Drop>(board: &mut Board<S>, first: u16, second: u16) -> Served
     ensures shows { S.Stage.pairs board.new.stage ≡ S.Stage.pairs board.old.stage }
     ensures neither { result ≡ Served.Neither → lendable (state_of board.old.table) ≡ None }
+    ensures served { InTurn S.Stage first second result board.old board.new }
 {
     let mut hand = None;
     let one = pick(board, &mut hand);

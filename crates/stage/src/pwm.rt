@@ -2,7 +2,7 @@ ghost use Rattle.std.specs.Prelude.{◌≡◌, ◌≤◌, true, false, IfSome, M
 ghost use Rattle.stage.specs.Cut.{cut};
 ghost use Rattle.stage.specs.Pairs.{dark, is_gate, pair_of};
 ghost use Rattle.stage.specs.Pwm.{number, numbers, zero_positive, zeros_positive, pwm_pairs};
-ghost use Rattle.std.proofs.Common.{rules, arith};
+ghost use Rattle.std.proofs.Common.{rules};
 
 use crate::Stage;
 use crate::cut::cut;
@@ -71,7 +71,7 @@ impl Stage for Pwm {
 
     ghost pairs = { λ s. pwm_pairs s.one s.two };
 
-    ghost range = { first_of (Prim.search rules, Prim.grind (arith, Self.row.coded.inj)) };
+    ghost range = { Prim.search rules };
 
     fn step_size() -> u8 {
         Self::STEP
