@@ -1,4 +1,4 @@
-use crate::plate::{Coarse, Coarsest, Fine, Grain, Halves, Plate, Thirds};
+use crate::plate::Plate;
 use board::board::Board;
 use board::board::compare::compare;
 use board::refusal::Refusal;
@@ -9,13 +9,6 @@ use stage::wiring::{Wire, Wiring};
 use std::process::Abort;
 use std::test::Fail;
 
-const STILL: Inputs = Inputs {
-    count: 0,
-    positive: false,
-    negative: false,
-    home: false,
-};
-
 // Gate 1 at 129 microsteps, with a power of 100: the phases are -2 and -99.
 fn placed<S: Stage + Drop>(stage: S) -> Result<Board<S>, Refusal> {
     let mut board = Board::new(stage);
@@ -24,12 +17,12 @@ fn placed<S: Stage + Drop>(stage: S) -> Result<Board<S>, Refusal> {
     board.write(129)?;
     board.command(0x62)?;
     board.write(100)?;
-    board.cycle(STILL, STILL);
+    board.cycle(Inputs::STILL, Inputs::STILL);
     Ok(board)
 }
 
-fn shows<G: Grain + Drop>(rt: &impl Abort, grain: G, expected: (i32, i32)) -> Result<(), Fail> {
-    let board = placed(Plate::new(grain))?;
+fn shows<const N: u8>(rt: &impl Abort, expected: (i32, i32)) -> Result<(), Fail> {
+    let board = placed(Plate::<N>::new())?;
     assert_eq!(rt; board.pair(1), expected);
     assert_eq!(rt; board.pair(2), (0, 0));
     assert_eq!(rt; board.pair(3), (0, 0));
@@ -38,11 +31,11 @@ fn shows<G: Grain + Drop>(rt: &impl Abort, grain: G, expected: (i32, i32)) -> Re
 
 #[test]
 fn foreign_makes(rt: HostRuntime) -> Result<(), Fail> {
-    shows(&rt, Fine, (-2, -99))?;
-    shows(&rt, Halves, (-2, -98))?;
-    shows(&rt, Thirds, (0, -99))?;
-    shows(&rt, Coarse, (0, -64))?;
-    shows(&rt, Coarsest, (0, 0))
+    shows::<1>(&rt, (-2, -99))?;
+    shows::<2>(&rt, (-2, -98))?;
+    shows::<3>(&rt, (0, -99))?;
+    shows::<64>(&rt, (0, -64))?;
+    shows::<128>(&rt, (0, 0))
 }
 
 #[test]
@@ -52,10 +45,8 @@ fn compared_with_a_dac(rt: HostRuntime) -> Result<(), Fail> {
         exchanged: true,
         negated: true,
     };
-    let wired = placed(Wiring::new(Plate::new(Coarse), crossed, crossed))?;
-    let Some(found) = compare(&dac, &wired, 1) else {
-        return Err(Fail::new("gate 1 is a gate"));
-    };
+    let wired = placed(Wiring::new(Plate::<64>::new(), crossed, crossed))?;
+    let found = compare(&dac, &wired, 1).ok_or("gate 1 is a gate")?;
     assert!(rt; found.same);
     assert_eq!(rt; found.apart, (2, 35));
     Ok(())

@@ -13,9 +13,9 @@ seen_one w false below asked old h = refl
 
 module _ (step gate : ℕ) (one two wire : Wire) (p q : Pairs) (a b x y : ℤ) where
   -- both gates
-  pub seen : wire ≡ cond (eqb gate 1) one two → undone wire (cut step x, cut step y) ≡ (cut step a, cut step b)
+  pub seen : (gate ≡ 1 → wire ≡ one) → (gate ≡ 2 → wire ≡ two) → undone wire (cut step x, cut step y) ≡ (cut step a, cut step b)
       → q ≡ shown step p gate x y → undone_pairs one two q ≡ shown step (undone_pairs one two p) gate a b
-  seen w e h =
+  seen v w e h =
       let below : Pair = (cut step x, cut step y) in
       let asked : Pair = (cut step a, cut step b) in
       let first : eqb gate 1 ≡ true → undone one below ≡ asked = λ t. grind (arith, nat_tests) in

@@ -1,17 +1,16 @@
 -- The DAC words: gate 1 phase A, gate 1 phase B, gate 2 phase A, gate 2 phase B.
-use Rattle.std.specs.Prelude.{ℕ, cond, List, ℤ, pos, ◌-ℤ◌, ◌==◌, slice_index}
+use Rattle.std.specs.Prelude.{ℕ, cond, ℤ, pos, ◌-ℤ◌, ◌==◌}
+use Rattle.stage.specs.Levels.{levels}
 use Rattle.stage.specs.Pairs.{Pairs}
+use Rattle.stage.specs.declared.dac.Word.{Word}
+use Rattle.stage.specs.declared.levels.Levels.{Levels}
 
 -- the number that a word stands for
 abbrev pub number : ℕ → ℤ
 number w = pos w -ℤ pos 32768
 
-abbrev pub dac_pairs : List ℕ → Pairs
-dac_pairs ws =
-    record {
-      one = (number (slice_index ws 0), number (slice_index ws 1));
-      two = (number (slice_index ws 2), number (slice_index ws 3));
-    }
+abbrev pub dac_pairs : Levels Word → Pairs
+dac_pairs d = levels (λ w. number w.0) d.one d.two
 
 -- the number shown at an address from 0 to 3
 abbrev pub addressed : Pairs → ℕ → ℤ

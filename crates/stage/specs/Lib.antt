@@ -1,5 +1,7 @@
 pub mod Cut
 pub mod Pairs
+pub mod Levels
 pub mod Dac
+pub mod Pulse
 pub mod Pwm
 pub mod Wiring

@@ -1,21 +1,9 @@
--- The PWM lines: a magnitude and a sign for each phase.
-use Rattle.std.specs.Prelude.{◌*◌, Bool, true, cond, not, ◌&&◌, ℤ, pos, neg_ℤ, ◌==◌}
-use Rattle.stage.specs.declared.pulse.Pulse.{Pulse}
-use Rattle.stage.specs.Pairs.{Pair, Pairs}
+-- What a PWM stage shows.
+use Rattle.stage.specs.Levels.{levels}
+use Rattle.stage.specs.Pairs.{Pairs}
+use Rattle.stage.specs.Pulse.{number}
+use Rattle.stage.specs.declared.levels.Levels.{Levels}
+use Rattle.stage.specs.declared.pwm.Lines.{Lines}
 
--- the number that a pulse stands for: 128 for each step of its magnitude
-abbrev pub number : Pulse → ℤ
-number p = cond p.negative (neg_ℤ (pos (p.magnitude * 128))) (pos (p.magnitude * 128))
-
--- a magnitude of 0 has the positive sign
-abbrev pub zero_positive : Pulse → Bool
-zero_positive p = cond (p.magnitude == 0) (not p.negative) true
-
-abbrev pub numbers : Pulse × Pulse → Pair
-numbers p = (number p.0, number p.1)
-
-abbrev pub zeros_positive : Pulse × Pulse → Bool
-zeros_positive p = zero_positive p.0 && zero_positive p.1
-
-abbrev pub pwm_pairs : Pulse × Pulse → Pulse × Pulse → Pairs
-pwm_pairs one two = record { one = numbers one; two = numbers two }
+abbrev pub pwm_pairs : Levels Lines → Pairs
+pwm_pairs p = levels (λ l. number l.pulse) p.one p.two

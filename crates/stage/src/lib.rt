@@ -6,33 +6,38 @@ ghost use Rattle.stage.specs.Pairs.{Pairs, Bounded, pair_of, shown};
 
 pub mod cut;
 pub mod dac;
+pub mod levels;
 pub mod pulse;
 pub mod pwm;
 pub mod wiring;
 
-// A stage stands for one pair of phase numbers, A and B, for each of the gates 1 and 2.
+// A stage stands for one pair of phase numbers, A and B, for each of the gates 1 and 2. A gate is named by its number, since every other
+// number has its answer too.
 pub trait Stage {
+    // What every number shown is a multiple of.
     const STEP: u8;
 
-    ghost step: { ℕ };
+    ghost STEP: { ℕ };
 
     ghost pairs: { Self → Pairs };
 
-    // What every number shown is a multiple of.
     fn step_size() -> u8
-        ensures is { result ≡ step }
-        ensures range { (1 ≤ result) × (result ≤ 128) };
+        ensures is { result ≡ STEP }
+        ensures range { (1 ≤ result) × (result ≤ 128) }
+    {
+        Self::STEP
+    }
 
     // Shows two numbers on a gate; a gate other than 1 or 2 changes nothing.
     fn show(&mut self, gate: u8, a: i32, b: i32)
-        ensures { pairs self.new ≡ shown step (pairs self.old) gate a b };
+        ensures { pairs self.new ≡ shown STEP (pairs self.old) gate a b };
 
     // The pair that a gate shows; (0, 0) for a gate other than 1 or 2.
     fn pair(&self, gate: u8) -> (i32, i32)
         ensures is { result ≡ pair_of (pairs self.now) gate }
         ensures bounded { Bounded result };
 
-    ghost range: { (1 ≤ step) × (step ≤ 128) };
+    ghost range: { (1 ≤ STEP) × (STEP ≤ 128) };
 }
 
 #[cfg(test)]
@@ -40,9 +45,9 @@ mod tests {
     use crate::Stage;
     use crate::cut::cut;
     use crate::dac::Dac;
+    use crate::pulse::Pulse;
     use crate::pwm::Pwm;
     use crate::wiring::{Wire, Wiring};
-    use std::test::Fail;
 
     #[test]
     fn cuts_toward_zero(rt: HostRuntime) {
@@ -69,19 +74,20 @@ mod tests {
     }
 
     #[test]
-    fn pwm_lines(rt: HostRuntime) -> Result<(), Fail> {
+    fn pwm_lines(rt: HostRuntime) {
         let mut pwm = Pwm::new();
         pwm.show(1, -127, -32767);
-        let Some((a, b)) = pwm.pulses(1) else {
-            return Err(Fail::new("gate 1 has lines"));
+        let off = Pulse {
+            magnitude: 0,
+            negative: false,
         };
-        assert_eq!(rt; a.magnitude, 0);
-        assert_eq!(rt; a.negative, false);
-        assert_eq!(rt; b.magnitude, 255);
-        assert_eq!(rt; b.negative, true);
+        let full = Pulse {
+            magnitude: 255,
+            negative: true,
+        };
+        assert_eq!(rt; pwm.pulses(1), Some((off, full)));
         assert_eq!(rt; pwm.pair(1), (0, -32640));
-        assert!(rt; pwm.pulses(3).is_none());
-        Ok(())
+        assert_eq!(rt; pwm.pulses(3), None);
     }
 
     #[test]
@@ -90,11 +96,11 @@ mod tests {
             exchanged: true,
             negated: true,
         };
-        let plain = Wire {
-            exchanged: false,
-            negated: false,
-        };
-        let mut pile = Wiring::new(Wiring::new(Dac::new(), crossed, plain), crossed, crossed);
+        let mut pile = Wiring::new(
+            Wiring::new(Dac::new(), crossed, Wire::default()),
+            crossed,
+            crossed,
+        );
         pile.show(1, 7, 40000);
         pile.show(2, 7, 40000);
         assert_eq!(rt; pile.pair(1), (7, 32767));

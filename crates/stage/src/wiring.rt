@@ -7,7 +7,7 @@ ghost use Rattle.std.proofs.Common.{rules};
 use crate::Stage;
 
 // How one gate's phases are wired to the stage below.
-#[derive(Clone, Copy)]
+#[derive(Clone, Copy, PartialEq, Eq, Debug, Default)]
 pub struct Wire {
     // the two phases change places
     pub exchanged: bool,
@@ -28,6 +28,14 @@ impl<S: Stage + Drop> Wiring<S> {
         ensures { result ≡ record { below = below; one = one; two = two } }
     {
         Wiring { below, one, two }
+    }
+
+    // How a gate is wired; what a number other than 1 or 2 answers is of no account.
+    fn wire(&self, gate: u8) -> Wire
+        ensures first { gate ≡ 1 → result ≡ self.now.one }
+        ensures second { gate ≡ 2 → result ≡ self.now.two }
+    {
+        if gate == 1 { self.one } else { self.two }
     }
 
     pub fn below(&self) -> &S
@@ -68,27 +76,21 @@ fn unwired(wire: Wire, pair: (i32, i32)) -> (i32, i32)
 impl<S: Stage + Drop> Stage for Wiring<S> {
     const STEP: u8 = S::STEP;
 
-    ghost step = { S.Stage.step };
+    ghost STEP = { S.Stage.STEP };
 
     ghost pairs = { λ s. undone_pairs s.one s.two (S.Stage.pairs s.below) };
 
     ghost range = { Prim.search rules };
 
-    fn step_size() -> u8 {
-        S::step_size()
-    }
-
     fn show(&mut self, gate: u8, a: i32, b: i32)
-        ensures pairs { undone_pairs self.new.one self.new.two (S.Stage.pairs self.new.below) ≡ shown S.Stage.step (undone_pairs self.old.one self.old.two (S.Stage.pairs self.old.below)) gate a b }
+        ensures pairs { undone_pairs self.new.one self.new.two (S.Stage.pairs self.new.below) ≡ shown S.Stage.STEP (undone_pairs self.old.one self.old.two (S.Stage.pairs self.old.below)) gate a b }
         ensures wires { (self.new.one ≡ self.old.one) × (self.new.two ≡ self.old.two) }
     {
-        let wire = if gate == 1 { self.one } else { self.two };
-        let (a, b) = wired(wire, a, b);
+        let (a, b) = wired(self.wire(gate), a, b);
         self.below.show(gate, a, b);
     }
 
     fn pair(&self, gate: u8) -> (i32, i32) {
-        let wire = if gate == 1 { self.one } else { self.two };
-        unwired(wire, self.below.pair(gate))
+        unwired(self.wire(gate), self.below.pair(gate))
     }
 }

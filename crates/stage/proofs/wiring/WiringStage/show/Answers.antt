@@ -6,6 +6,6 @@ pub returns : goal.returns
 returns g c =
     let s = c.args.self.now in
     record {
-      pairs = seen g.S.Stage.step c.args.gate s.one s.two c.if-gate-eq1.wire _ _ c.args.a c.args.b _ _ (search rules) (search rules) c.show.ensures;
+      pairs = seen g.S.Stage.STEP c.args.gate s.one s.two c.wire.result _ _ c.args.a c.args.b _ _ c.wire.ensures.first c.wire.ensures.second (search rules) c.show.ensures;
       wires = (refl, refl);
     }
