@@ -1,3 +1,3 @@
+pub mod Bits
 pub mod Equalities
-pub mod Sounds
 pub mod Steps

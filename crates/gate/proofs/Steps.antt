@@ -1,6 +1,5 @@
 -- The steps of a cycle, one after the other.
-use Rattle.std.proofs.Common.{◌≡◌, ℕ, ◌≤◌, max, Bool, true, false, cond, not, ◌&&◌, ◌||◌, eqb, ℤ, pos, ◌-ℤ◌, nat_abs, sym, refl, ap, ◌∙◌, arith, w16, SFits, to_z, of_z}
-use Rattle.std.proofs.lemmas.Int.{to_z-of_z}
+use Rattle.std.proofs.Common.{◌≡◌, ℕ, ◌≤◌, max, Bool, true, false, cond, not, ◌&&◌, ◌||◌, eqb, ℤ, pos, ◌-ℤ◌, nat_abs, sym, refl, ap, ◌∙◌, arith}
 use Rattle.std.proofs.lemmas.Bool.Decides.{nat_tests}
 use Rattle.motion.proofs.Velocities.{trapezoid_size, trapezoid_step, cruise_size, cruise_step}
 use Rattle.motion.specs.Course.{advanced, counted, crosses, distance_to, whole_steps}
@@ -9,14 +8,10 @@ use Rattle.gate.specs.declared.inputs.Inputs.{Inputs}
 use Rattle.gate.specs.declared.movement.Motion.{Motion}
 use Rattle.gate.specs.declared.profile.ProfileMode.{ProfileMode}
 use Rattle.gate.specs.declared.profile.ProfileMode.TheVariants.{Trapezoidal, Velocity}
-use Rattle.gate.specs.Cycles.{clocked, encoded, limits, trips, tripped, holds, marked, meets, met, paced, next_velocity, moved, arrived, at_rest, settled, brought, cycled}
+use Rattle.gate.specs.Cycles.{clocked, encoded, limits, trips, tripped, holds, marked, meets, met, paced, next_velocity, moved, arrived, at_rest, settled, cycled}
 use Rattle.gate.specs.Clock.{ticked, time}
 use Rattle.gate.specs.Gates.{latched, stopped}
 use Rattle.gate.specs.Laws.{Paced, Ordered}
-
--- what a cycle brings, put together again
-pub brought_is : (i : Inputs) → SFits w16 i.count → brought (to_z w16 (of_z w16 i.count)) i.positive i.negative i.home ≡ i
-brought_is i fits = ap (λ count. brought count i.positive i.negative i.home) (to_z-of_z w16 i.count fits)
 
 -- the code's steps make a cycle
 pub chained : (i : Inputs) (g g1 g2 g3 g4 g5 g6 : Gate) → g1 ≡ clocked g → g2 ≡ encoded i.count g1 → g3 ≡ tripped i g2 → g4 ≡ met i.home g3 → g5 ≡ moved g4 → g6 ≡ settled g5 → g6 ≡ cycled i g

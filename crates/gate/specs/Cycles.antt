@@ -92,10 +92,6 @@ settled g =
     with_events (with_motion g (record { target = g.motion.target; velocity = g.motion.velocity; halted = g.motion.halted; rested = at_rest g }))
     (record { complete = g.events.complete || (at_rest g && not g.motion.rested); wrapped = g.events.wrapped; reached = g.events.reached; positive = g.events.positive; negative = g.events.negative; error = g.events.error })
 
--- what the encoder and the switches bring
-abbrev pub brought : ℤ → Bool → Bool → Bool → Inputs
-brought count positive negative home = record { count = count; positive = positive; negative = negative; home = home }
-
 -- the steps in their order
 abbrev pub cycled : Inputs → Gate → Gate
 cycled i g = settled (moved (met i.home (tripped i (encoded i.count (clocked g)))))

@@ -1,5 +1,5 @@
 -- The event bits of a gate and their places.
-use Rattle.std.specs.Prelude.{ℕ, ◌+◌, ◌/◌, ◌%◌, ◌^◌, Bool, false, cond, ◌&&◌, ◌||◌, ◌==◌}
+use Rattle.std.specs.Prelude.{ℕ, ◌+◌, ◌/◌, ◌%◌, ◌^◌, Bool, false, cond, ◌&&◌, ◌||◌, ◌==◌, List, [], ◌∷◌}
 use Rattle.gate.specs.declared.events.Event.{Event}
 use Rattle.gate.specs.declared.events.Event.TheVariants.{MotionComplete, WrapAround, Breakpoint, PositiveLimit, NegativeLimit, CommandError}
 use Rattle.gate.specs.declared.events.Events.{Events}
@@ -14,6 +14,12 @@ place CommandError = 7
 
 abbrev pub no_events : Events
 no_events = record { complete = false; wrapped = false; reached = false; positive = false; negative = false; error = false }
+
+-- each event with its bit
+abbrev pub all : Events → List (Event × Bool)
+all e =
+    (MotionComplete, e.complete) ∷ (WrapAround, e.wrapped) ∷ (Breakpoint, e.reached) ∷ (PositiveLimit, e.positive)
+    ∷ (NegativeLimit, e.negative) ∷ (CommandError, e.error) ∷ []
 
 -- whether a word holds 1 at a place
 abbrev pub bit : ℕ → ℕ → Bool

@@ -28,6 +28,14 @@ refused = Err (record {})
 abbrev pub answer : Bool → Result (Unit {0}) OutOfRange
 answer fits = cond fits (Ok tt) refused
 
+-- a value if it fits, and the refusal if not
+abbrev pub checked : {A : Type 0} → Bool → A → Result A OutOfRange
+checked fits x = cond fits (Ok x) (Err (record {}))
+
+-- the gate after an order that runs if its value fits
+abbrev pub tried : Bool → Gate → Gate → Gate
+tried fits after before = cond fits after before
+
 -- powers run from 0 to 32,767; any word clears, and any word masks
 abbrev pub word_fits : WordOrder → ℕ → Bool
 word_fits word.BufferedPower w = nat_le w 32767

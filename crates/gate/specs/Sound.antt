@@ -1,4 +1,5 @@
--- A sound record: every register, the positions and the velocity are in their ranges.
+-- A sound record: every register, the positions and the velocity are in their ranges. The record itself stays plain, since a board holds
+-- two in an array of its own plain table and carries the proof for both; so each call that changes a record says that it keeps it sound.
 use Rattle.std.specs.Prelude.{◌^◌, ◌<◌, ◌≤◌, unsigned_abs}
 use Rattle.motion.specs.Course.{Within}
 use Rattle.gate.specs.declared.gate.Gate.{Gate}

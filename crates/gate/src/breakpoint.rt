@@ -1,5 +1,5 @@
 // What a breakpoint waits for.
-#[derive(Clone, Copy, PartialEq)]
+#[derive(Clone, Copy, PartialEq, Eq, Debug)]
 pub enum BreakMode {
     Off,
     Time,
@@ -11,10 +11,10 @@ pub enum BreakMode {
     External,
 }
 
-#[derive(Clone, Copy, PartialEq)]
+#[derive(Clone, Copy, PartialEq, Eq, Debug)]
 pub struct Breakpoint {
     pub mode: BreakMode,
-    // a time, or a position in two's complement
+    // a time, or a position in two's complement; it stays while the mode is off
     pub point: u32,
     // whether a breakpoint that is met latches
     pub auto: bool,

@@ -1,5 +1,5 @@
 ghost use Rattle.std.specs.Prelude.{◌≡◌, ◌^◌, ◌<◌, unsigned_abs};
-ghost use Rattle.gate.specs.Cycles.{clocked, encoded, tripped, meets, met, next_velocity, moved, at_rest, settled, brought, cycled, shows};
+ghost use Rattle.gate.specs.Cycles.{clocked, encoded, tripped, meets, met, next_velocity, moved, at_rest, settled, cycled, shows};
 ghost use Rattle.gate.specs.Laws.{Paced, Ordered};
 ghost use Rattle.gate.specs.Sound.{Sound};
 
@@ -8,7 +8,8 @@ use crate::gate::Gate;
 use crate::inputs::Inputs;
 use crate::limits::Detectors;
 use crate::profile::ProfileMode;
-use motion::course::{advanced, counted, cruise, distance, trapezoid, whole_steps};
+use motion::course::{advanced, counted, cruise, distance, whole_steps};
+use motion::rate::Rate;
 use wave::phases::phases;
 
 impl Gate {
@@ -99,12 +100,13 @@ impl Gate {
         let profile = self.active;
         match profile.mode {
             ProfileMode::Velocity => cruise(velocity, profile.velocity, profile.acceleration),
-            ProfileMode::Trapezoidal => trapezoid(
-                velocity,
-                profile.velocity,
-                profile.acceleration.unsigned_abs(),
-                distance(profile.destination, self.motion.target),
-            ),
+            ProfileMode::Trapezoidal => {
+                let rate = Rate {
+                    size: profile.acceleration.unsigned_abs(),
+                };
+                let distance = distance(profile.destination, self.motion.target);
+                rate.trapezoid(velocity, profile.velocity, distance)
+            }
         }
     }
 
@@ -117,7 +119,7 @@ impl Gate {
         let (target, crossed) = advanced(self.motion.target, velocity);
         self.motion.target = target;
         self.motion.velocity = velocity;
-        self.events.wrapped = self.events.wrapped || crossed;
+        self.events.wrapped |= crossed;
     }
 
     // Whether the gate stands, and has nowhere to go.
@@ -160,19 +162,13 @@ impl Gate {
     }
 
     // One cycle but for the phases, of what the encoder and the switches bring.
-    pub fn turn(&mut self, count: i16, positive: bool, negative: bool, home: bool)
+    pub fn turn(&mut self, inputs: Inputs)
         requires { Sound self.old }
-        ensures is { self.new ≡ cycled (brought count positive negative home) self.old }
+        ensures is { self.new ≡ cycled inputs self.old }
         ensures sound { Sound self.new }
         ensures paced { Paced self.old self.new }
-        ensures ordered { Ordered (brought count positive negative home) self.old self.new }
+        ensures ordered { Ordered inputs self.old self.new }
     {
-        let inputs = Inputs {
-            count,
-            positive,
-            negative,
-            home,
-        };
         self.tick();
         self.encode(inputs);
         self.trip(inputs);
@@ -190,7 +186,7 @@ impl Gate {
         ensures paced { Paced self.old self.new }
         ensures ordered { Ordered inputs self.old self.new }
     {
-        self.turn(inputs.count, inputs.positive, inputs.negative, inputs.home);
+        self.turn(inputs);
         self.phases()
     }
 }

@@ -1,14 +1,14 @@
 ghost use Rattle.std.specs.Prelude.{◌≡◌, ◌<◌};
-ghost use Rattle.gate.specs.Events.{bit, place, no_events, events_word, kept, raised};
+ghost use Rattle.gate.specs.Events.{all, bit, place, no_events, events_word, kept, raised, weight};
 
-#[derive(Clone, Copy, PartialEq)]
+#[derive(Clone, Copy, PartialEq, Eq, Debug)]
 pub enum Event {
-    MotionComplete,
-    WrapAround,
-    Breakpoint,
-    PositiveLimit,
-    NegativeLimit,
-    CommandError,
+    MotionComplete = 0,
+    WrapAround = 1,
+    Breakpoint = 2,
+    PositiveLimit = 5,
+    NegativeLimit = 6,
+    CommandError = 7,
 }
 
 impl Event {
@@ -17,19 +17,12 @@ impl Event {
         ensures is { result ≡ place self }
         ensures bound { result < 16 }
     {
-        match self {
-            Event::MotionComplete => 0,
-            Event::WrapAround => 1,
-            Event::Breakpoint => 2,
-            Event::PositiveLimit => 5,
-            Event::NegativeLimit => 6,
-            Event::CommandError => 7,
-        }
+        self as u8
     }
 }
 
 // The event bits of a gate.
-#[derive(Clone, Copy, PartialEq)]
+#[derive(Clone, Copy, PartialEq, Eq, Default, Debug)]
 pub struct Events {
     pub complete: bool,
     pub wrapped: bool,
@@ -37,6 +30,13 @@ pub struct Events {
     pub positive: bool,
     pub negative: bool,
     pub error: bool,
+}
+
+// A bit at the event's place.
+fn weight(event: Event, set: bool) -> u16
+    ensures { result ≡ weight set (place event) }
+{
+    u16::from(set) << event.place()
 }
 
 // Whether a word holds 1 at the event's place.
@@ -50,49 +50,51 @@ impl Events {
     pub fn none() -> Events
         ensures { result ≡ no_events }
     {
-        Events {
-            complete: false,
-            wrapped: false,
-            reached: false,
-            positive: false,
-            negative: false,
-            error: false,
-        }
+        Events::default()
+    }
+
+    // Each event with its bit.
+    fn all(&self) -> [(Event, bool); 6]
+        ensures { result ≡ all self.now }
+    {
+        [
+            (Event::MotionComplete, self.complete),
+            (Event::WrapAround, self.wrapped),
+            (Event::Breakpoint, self.reached),
+            (Event::PositiveLimit, self.positive),
+            (Event::NegativeLimit, self.negative),
+            (Event::CommandError, self.error),
+        ]
     }
 
     // The bits at their places.
     pub fn word(&self) -> u16
         ensures { result ≡ events_word self.now }
     {
-        u16::from(self.complete)
-            + u16::from(self.wrapped) * 2
-            + u16::from(self.reached) * 4
-            + u16::from(self.positive) * 32
-            + u16::from(self.negative) * 64
-            + u16::from(self.error) * 128
+        self.all()
+            .iter()
+            .map(|&(event, set)| weight(event, set))
+            .sum()
     }
 
-    // Clears the bits whose places hold 0 in the word.
+    // Clears the bits whose places hold 0 in the word. Written out, since a list of bits to write would hold references, and no array can.
     pub fn keep(&mut self, word: u16)
         ensures { self.new ≡ kept word self.old }
     {
-        self.complete = self.complete && holds(word, Event::MotionComplete);
-        self.wrapped = self.wrapped && holds(word, Event::WrapAround);
-        self.reached = self.reached && holds(word, Event::Breakpoint);
-        self.positive = self.positive && holds(word, Event::PositiveLimit);
-        self.negative = self.negative && holds(word, Event::NegativeLimit);
-        self.error = self.error && holds(word, Event::CommandError);
+        self.complete &= holds(word, Event::MotionComplete);
+        self.wrapped &= holds(word, Event::WrapAround);
+        self.reached &= holds(word, Event::Breakpoint);
+        self.positive &= holds(word, Event::PositiveLimit);
+        self.negative &= holds(word, Event::NegativeLimit);
+        self.error &= holds(word, Event::CommandError);
     }
 
     // Whether a bit is set whose place holds 1 in the mask.
     pub fn raised(&self, mask: u16) -> bool
         ensures { result ≡ raised mask self.now }
     {
-        self.complete && holds(mask, Event::MotionComplete)
-            || self.wrapped && holds(mask, Event::WrapAround)
-            || self.reached && holds(mask, Event::Breakpoint)
-            || self.positive && holds(mask, Event::PositiveLimit)
-            || self.negative && holds(mask, Event::NegativeLimit)
-            || self.error && holds(mask, Event::CommandError)
+        self.all()
+            .iter()
+            .any(|&(event, set)| set && holds(mask, event))
     }
 }

@@ -1,6 +1,6 @@
-ghost use Rattle.std.specs.Prelude.{◌≡◌, ◌^◌, ◌<◌, ◌≤◌, true, false, pos, ◌*ℤ◌, unsigned_abs};
+ghost use Rattle.std.specs.Prelude.{◌≡◌, ◌^◌, true, false, pos, ◌*ℤ◌};
 ghost use Rattle.motion.specs.Course.{Within};
-ghost use Rattle.gate.specs.Gates.{fresh, latched, stopped, placed, erred, with_events, with_slip, with_motion, with_destination, with_velocity, with_acceleration, with_mode, with_power};
+ghost use Rattle.gate.specs.Gates.{fresh, latched, stopped, placed, erred, with_events, with_slip, with_motion};
 ghost use Rattle.gate.specs.Events.{kept};
 ghost use Rattle.gate.specs.Sound.{Sound};
 
@@ -10,12 +10,13 @@ use crate::events::Events;
 use crate::limits::Detectors;
 use crate::movement::Motion;
 use crate::powers::Powers;
-use crate::profile::{Profile, ProfileMode};
+use crate::profile::Profile;
+use motion::course::MICROSTEP;
 use wave::phases::MotorKind;
 
 // A gate is one axis of a board: a hopper gate and the stepping motor that moves it. This is all that is known of it; what holds the
 // record keeps its registers in their ranges.
-#[derive(Clone, Copy, PartialEq)]
+#[derive(Clone, Copy, PartialEq, Eq, Debug)]
 pub struct Gate {
     pub buffered: Profile,
     pub active: Profile,
@@ -40,7 +41,7 @@ fn whole(position: i32) -> i64
     ensures is { result ≡ pos 65536 *ℤ position }
     ensures range { Within (2 ^ 46) result }
 {
-    65_536 * i64::from(position)
+    MICROSTEP * i64::from(position)
 }
 
 impl Gate {
@@ -86,49 +87,9 @@ impl Gate {
         ensures once { latched self.new ≡ self.new }
         ensures sound { Sound self.old → Sound self.new }
     {
-        let powers = self.powers.buffered;
         self.active = self.buffered;
-        self.powers.active = powers;
-        self.motion.halted = self.motion.halted && (self.events.positive || self.events.negative);
-    }
-
-    pub(crate) fn load_destination(&mut self, destination: i32)
-        requires { Within (2 ^ 30) destination }
-        ensures is { self.new ≡ with_destination destination self.old }
-        ensures sound { Sound self.old → Sound self.new }
-    {
-        self.buffered.destination = destination;
-    }
-
-    pub(crate) fn load_velocity(&mut self, velocity: u32)
-        requires { velocity < 2 ^ 30 }
-        ensures is { self.new ≡ with_velocity velocity self.old }
-        ensures sound { Sound self.old → Sound self.new }
-    {
-        self.buffered.velocity = velocity;
-    }
-
-    pub(crate) fn load_acceleration(&mut self, acceleration: i32)
-        requires { (Within (2 ^ 30) acceleration) × (1 ≤ unsigned_abs acceleration) }
-        ensures is { self.new ≡ with_acceleration acceleration self.old }
-        ensures sound { Sound self.old → Sound self.new }
-    {
-        self.buffered.acceleration = acceleration;
-    }
-
-    pub(crate) fn load_mode(&mut self, mode: ProfileMode)
-        ensures is { self.new ≡ with_mode mode self.old }
-        ensures sound { Sound self.old → Sound self.new }
-    {
-        self.buffered.mode = mode;
-    }
-
-    pub(crate) fn load_power(&mut self, power: u16)
-        requires { power ≤ 32767 }
-        ensures is { self.new ≡ with_power power self.old }
-        ensures sound { Sound self.old → Sound self.new }
-    {
-        self.powers.buffered = power;
+        self.powers.active = self.powers.buffered;
+        self.motion.halted &= self.events.positive || self.events.negative;
     }
 
     // Stops the gate where it is, until a latch.

@@ -1,5 +1,5 @@
 // How a gate moves.
-#[derive(Clone, Copy, PartialEq)]
+#[derive(Clone, Copy, PartialEq, Eq, Debug)]
 pub struct Motion {
     // the target position, in 1/65,536 microstep
     pub target: i64,

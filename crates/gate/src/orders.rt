@@ -1,6 +1,7 @@
-ghost use Rattle.std.specs.Prelude.{◌≡◌, true, false};
-ghost use Rattle.gate.specs.Gates.{erred};
-ghost use Rattle.gate.specs.Orders.{in_range, refused, ran, ran_word, ran_long, word_answer, long_answer, word_fits, long_fits};
+ghost use Rattle.std.specs.Prelude.{◌≡◌, true, false, nat_le};
+ghost use Rattle.std.specs.Int.{w32};
+ghost use Rattle.std.proofs.Common.{to_z};
+ghost use Rattle.gate.specs.Orders.{checked, in_range, ran, tried, word_run, long_run, ran_word, ran_long, word_answer, long_answer, word_fits, long_fits};
 ghost use Rattle.gate.specs.Laws.{Quiet, order_loads, order_sees, word_loads, long_loads, long_sees};
 ghost use Rattle.gate.specs.Sound.{Sound};
 
@@ -10,7 +11,7 @@ use crate::profile::ProfileMode;
 use wave::phases::MotorKind;
 
 // What a gate can be told with no value.
-#[derive(Clone, Copy)]
+#[derive(Clone, Copy, PartialEq, Eq, Debug)]
 pub enum Order {
     Mode(ProfileMode),
     Stop,
@@ -21,7 +22,7 @@ pub enum Order {
 }
 
 // What a gate can be told with a word.
-#[derive(Clone, Copy)]
+#[derive(Clone, Copy, PartialEq, Eq, Debug)]
 pub enum WordOrder {
     BufferedPower,
     Power,
@@ -30,7 +31,7 @@ pub enum WordOrder {
 }
 
 // What a gate can be told with a number of two words.
-#[derive(Clone, Copy)]
+#[derive(Clone, Copy, PartialEq, Eq, Debug)]
 pub enum LongOrder {
     Destination,
     Velocity,
@@ -39,25 +40,48 @@ pub enum LongOrder {
     Actual,
 }
 
-// A value outside its range.
-#[derive(Clone, Copy)]
+// A value outside its range. It is never printed: a board answers it with a refusal of its own.
+#[derive(Clone, Copy, PartialEq, Eq, Debug)]
 pub struct OutOfRange;
 
 const LARGEST_POWER: u16 = 32_767;
 
 const LARGEST_VELOCITY: u32 = 0x3fff_ffff;
 
-// The range of positions and accelerations.
-fn in_range(value: i32) -> bool
-    ensures { result ≡ in_range value }
+// Positions and accelerations run from -SIGNED_END to SIGNED_END - 1.
+const SIGNED_END: i32 = 0x4000_0000;
+
+fn power(word: u16) -> Result<u16, OutOfRange>
+    ensures { result ≡ checked (nat_le word 32767) word }
 {
-    -0x4000_0000 <= value && value <= 0x3fff_ffff
+    (word <= LARGEST_POWER).then_some(word).ok_or(OutOfRange)
 }
 
-fn accelerates(value: u32) -> bool
-    ensures { result ≡ long_fits LongOrder.Acceleration value }
+fn velocity(value: u32) -> Result<u32, OutOfRange>
+    ensures { result ≡ checked (long_fits LongOrder.Velocity value) value }
 {
-    value != 0 && in_range(value.cast_signed())
+    (value <= LARGEST_VELOCITY)
+        .then_some(value)
+        .ok_or(OutOfRange)
+}
+
+fn position(value: u32) -> Result<i32, OutOfRange>
+    ensures { result ≡ checked (in_range (to_z w32 value)) (to_z w32 value) }
+{
+    let position = value.cast_signed();
+    (-SIGNED_END..SIGNED_END)
+        .contains(&position)
+        .then_some(position)
+        .ok_or(OutOfRange)
+}
+
+fn acceleration(value: u32) -> Result<i32, OutOfRange>
+    ensures { result ≡ checked (long_fits LongOrder.Acceleration value) (to_z w32 value) }
+{
+    if value == 0 {
+        return Err(OutOfRange);
+    }
+    position(value)
 }
 
 impl Gate {
@@ -67,8 +91,8 @@ impl Gate {
         ensures quiet { order_loads order ≡ true → Quiet (order_sees order) self.old self.new }
     {
         match order {
-            Order::Mode(mode) => self.load_mode(mode),
-            Order::Stop => self.load_velocity(0),
+            Order::Mode(mode) => self.buffered.mode = mode,
+            Order::Stop => self.buffered.velocity = 0,
             Order::Update => self.latch(),
             Order::Auto(on) => self.breakpoint.auto = on,
             Order::Break(mode) => self.breakpoint.mode = mode,
@@ -76,13 +100,40 @@ impl Gate {
         }
     }
 
-    fn refuse(&mut self) -> Result<(), OutOfRange>
-        ensures answer { result ≡ refused }
-        ensures is { self.new ≡ erred self.old }
+    // Runs the order if the word fits it, and else changes nothing. A function for words and longer numbers alike would only move these
+    // matches into impls of a trait.
+    fn try_word(&mut self, order: WordOrder, word: u16) -> Result<(), OutOfRange>
+        ensures answer { result ≡ word_answer order word }
+        ensures is { self.new ≡ tried (word_fits order word) (word_run order word self.old) self.old }
         ensures sound { Sound self.old → Sound self.new }
     {
-        self.err();
-        Err(OutOfRange)
+        match order {
+            WordOrder::BufferedPower => self.powers.buffered = power(word)?,
+            WordOrder::Power => {
+                let power = power(word)?;
+                self.powers.buffered = power;
+                self.powers.active = power;
+            }
+            WordOrder::Status => self.events.keep(word),
+            WordOrder::Mask => self.mask = word,
+        }
+        Ok(())
+    }
+
+    // Runs the order if the value fits it, and else changes nothing.
+    fn try_long(&mut self, order: LongOrder, value: u32) -> Result<(), OutOfRange>
+        ensures answer { result ≡ long_answer order value }
+        ensures is { self.new ≡ tried (long_fits order value) (long_run order value self.old) self.old }
+        ensures sound { Sound self.old → Sound self.new }
+    {
+        match order {
+            LongOrder::Destination => self.buffered.destination = position(value)?,
+            LongOrder::Velocity => self.buffered.velocity = velocity(value)?,
+            LongOrder::Acceleration => self.buffered.acceleration = acceleration(value)?,
+            LongOrder::Point => self.breakpoint.point = value,
+            LongOrder::Actual => self.place(position(value)?),
+        }
+        Ok(())
     }
 
     // Runs the order, or sets the command error bit and nothing else.
@@ -92,24 +143,11 @@ impl Gate {
         ensures sound { Sound self.old → Sound self.new }
         ensures quiet { word_loads order ≡ true → word_fits order word ≡ true → Quiet (λ _. false) self.old self.new }
     {
-        match order {
-            WordOrder::BufferedPower => {
-                if word > LARGEST_POWER {
-                    return self.refuse();
-                }
-                self.load_power(word);
-            }
-            WordOrder::Power => {
-                if word > LARGEST_POWER {
-                    return self.refuse();
-                }
-                self.powers.buffered = word;
-                self.powers.active = word;
-            }
-            WordOrder::Status => self.events.keep(word),
-            WordOrder::Mask => self.mask = word,
+        let done = self.try_word(order, word);
+        if done.is_err() {
+            self.err();
         }
-        Ok(())
+        done
     }
 
     // Runs the order, or sets the command error bit and nothing else.
@@ -119,34 +157,10 @@ impl Gate {
         ensures sound { Sound self.old → Sound self.new }
         ensures quiet { long_loads order ≡ true → long_fits order value ≡ true → Quiet (long_sees order) self.old self.new }
     {
-        let signed = value.cast_signed();
-        match order {
-            LongOrder::Destination => {
-                if !in_range(signed) {
-                    return self.refuse();
-                }
-                self.load_destination(signed);
-            }
-            LongOrder::Velocity => {
-                if value > LARGEST_VELOCITY {
-                    return self.refuse();
-                }
-                self.load_velocity(value);
-            }
-            LongOrder::Acceleration => {
-                if !accelerates(value) {
-                    return self.refuse();
-                }
-                self.load_acceleration(signed);
-            }
-            LongOrder::Point => self.breakpoint.point = value,
-            LongOrder::Actual => {
-                if !in_range(signed) {
-                    return self.refuse();
-                }
-                self.place(signed);
-            }
+        let done = self.try_long(order, value);
+        if done.is_err() {
+            self.err();
         }
-        Ok(())
+        done
     }
 }

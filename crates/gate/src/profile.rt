@@ -2,14 +2,14 @@ ghost use Rattle.std.specs.Prelude.{◌≡◌};
 ghost use Rattle.gate.specs.Profile.{first_profile};
 
 // How a gate runs: to a destination, or at a velocity.
-#[derive(Clone, Copy, PartialEq)]
+#[derive(Clone, Copy, PartialEq, Eq, Debug)]
 pub enum ProfileMode {
     Trapezoidal,
     Velocity,
 }
 
 // The profile registers, of which a gate has a buffered and an active set.
-#[derive(Clone, Copy, PartialEq)]
+#[derive(Clone, Copy, PartialEq, Eq, Debug)]
 pub struct Profile {
     // in microsteps
     pub destination: i32,

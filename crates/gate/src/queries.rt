@@ -5,8 +5,13 @@ ghost use Rattle.gate.specs.Sound.{Sound};
 use crate::gate::Gate;
 use motion::course::whole_steps;
 
+// The places of in-motion and of the axis in the status word.
+const IN_MOTION_PLACE: u8 = 10;
+
+const AXIS_PLACE: u8 = 12;
+
 // What a gate can be asked with an answer of two words.
-#[derive(Clone, Copy)]
+#[derive(Clone, Copy, PartialEq, Eq, Debug)]
 pub enum Query {
     Position,
     Velocity,
@@ -35,11 +40,12 @@ impl Gate {
 
     // The status word; `axis` is the current axis, 0 for gate 1 and 1 for gate 2.
     pub fn status(&self, axis: u8) -> u16
-        requires { (Sound self.now) × (axis < 4) }
+        requires sound { Sound self.now }
+        requires axis { axis < 4 }
         ensures { result ≡ status_word axis self.now }
     {
-        let moving = if self.at_rest() { 0 } else { 1024 };
-        self.events.word() + moving + u16::from(axis) * 4096
+        let moving = u16::from(!self.at_rest()) << IN_MOTION_PLACE;
+        self.events.word() + moving + (u16::from(axis) << AXIS_PLACE)
     }
 
     // Whether an event bit is set whose place in the mask holds 1.

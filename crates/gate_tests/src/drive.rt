@@ -7,20 +7,11 @@ use gate::profile::ProfileMode;
 use std::process::Abort;
 use std::test::Fail;
 
-// A cycle with no count and no active switch.
-pub const IDLE: Inputs = Inputs {
-    count: 0,
-    positive: false,
-    negative: false,
-    home: false,
-};
-
 // A cycle with both limit switches active.
 pub const BOTH: Inputs = Inputs {
-    count: 0,
     positive: true,
     negative: true,
-    home: false,
+    ..Inputs::STILL
 };
 
 // A fresh gate with these registers active.
@@ -48,19 +39,19 @@ pub fn follows(rt: &impl Abort, mut gate: Gate, rows: &[(i32, i64, u16)]) -> Res
     requires { Sound gate }
 {
     for row in rows {
-        let _ = gate.cycle(IDLE);
+        let _ = gate.cycle(Inputs::STILL);
         assert_eq!(rt; seen(&gate), *row);
     }
     Ok(())
 }
 
 // What is left of a long move.
-#[derive(Clone, Copy, Debug, PartialEq)]
+#[derive(Clone, Copy, PartialEq, Eq, Debug)]
 pub struct Summary {
     // of all velocities, in order
     pub checksum: u32,
     // the cycle in which motion complete was set
-    pub complete: u32,
+    pub complete: Option<u32>,
     pub end: (i32, i64, u16),
 }
 
@@ -68,14 +59,14 @@ pub fn travel(mut gate: Gate, cycles: u32) -> Summary
     requires { Sound gate }
 {
     let mut checksum: u32 = 0;
-    let mut complete: u32 = 0;
+    let mut complete = None;
     for _turn in 0..cycles {
-        let _ = gate.cycle(IDLE);
+        let _ = gate.cycle(Inputs::STILL);
         checksum = checksum
             .wrapping_mul(31)
             .wrapping_add(gate.motion.velocity.cast_unsigned());
-        if gate.events.complete && complete == 0 {
-            complete = gate.clock.time();
+        if gate.events.complete && complete.is_none() {
+            complete = Some(gate.clock.time());
         }
     }
     Summary {

@@ -1,20 +1,25 @@
 use gate::gate::Gate;
-use gate::orders::{LongOrder, WordOrder};
+use gate::orders::{LongOrder, OutOfRange, WordOrder};
 use std::process::Abort;
 
-// Whether a fresh gate takes the value; a refusal, and nothing else, sets the command error bit.
-fn takes(rt: &impl Abort, order: LongOrder, value: u32) -> bool {
+// Whether a fresh gate takes the order; a refusal, and nothing else, sets the command error bit.
+fn taken<F>(rt: &impl Abort, run: F) -> bool
+where
+    F: FnOnce(&mut Gate) -> Result<(), OutOfRange>,
+    requires { (gate : _) → F.pre run gate }
+{
     let mut gate = Gate::fresh(false);
-    let taken = gate.run_long(order, value).is_ok();
+    let taken = run(&mut gate).is_ok();
     assert_eq!(rt; gate.events.word(), if taken { 0 } else { 128 });
     taken
 }
 
+fn takes(rt: &impl Abort, order: LongOrder, value: u32) -> bool {
+    taken(rt, |gate| gate.run_long(order, value))
+}
+
 fn takes_word(rt: &impl Abort, order: WordOrder, word: u16) -> bool {
-    let mut gate = Gate::fresh(false);
-    let taken = gate.run_word(order, word).is_ok();
-    assert_eq!(rt; gate.events.word(), if taken { 0 } else { 128 });
-    taken
+    taken(rt, |gate| gate.run_word(order, word))
 }
 
 #[test]

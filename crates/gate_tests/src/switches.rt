@@ -1,5 +1,6 @@
-use crate::drive::{BOTH, IDLE, follows, seen, sent};
+use crate::drive::{BOTH, follows, seen, sent};
 use gate::breakpoint::BreakMode;
+use gate::inputs::Inputs;
 use gate::orders::{LongOrder, Order, WordOrder};
 use gate::profile::ProfileMode;
 use std::test::Fail;
@@ -8,7 +9,7 @@ use std::test::Fail;
 #[test]
 fn limits(rt: HostRuntime) {
     let mut gate = sent(ProfileMode::Trapezoidal, 1000, 1_310_720, 65_536);
-    let _ = gate.cycle(IDLE);
+    let _ = gate.cycle(Inputs::STILL);
     let _ = gate.cycle(BOTH);
     assert_eq!(rt; seen(&gate), (0, 65_536, 33));
     assert!(rt; !gate.detectors.positive && gate.detectors.negative);
@@ -46,7 +47,7 @@ fn breaks_in_the_first_cycle(rt: HostRuntime) {
     let _ = gate.run_long(LongOrder::Point, 1);
     let _ = gate.run_word(WordOrder::Mask, 4);
     assert!(rt; !gate.calls());
-    let _ = gate.cycle(IDLE);
+    let _ = gate.cycle(Inputs::STILL);
     assert_eq!(rt; seen(&gate), (16_384, 16_384, 1028));
     assert!(rt; gate.calls());
 }

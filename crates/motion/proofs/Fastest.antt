@@ -1,5 +1,5 @@
 -- The greatest speed that fits: that there is one, only one, and where the search finds it.
-use Rattle.std.proofs.Common.{◌≡◌, ℕ, zero, suc, ◌+◌, ◌<◌, ◌≤◌, Bool, true, false, cond, leb, ◌⊎◌, ap, inl, inr, arith}
+use Rattle.std.proofs.Common.{◌≡◌, ℕ, zero, suc, ◌+◌, ◌<◌, ◌≤◌, Bool, true, false, cond, leb, ◌⊎◌, ap, inl, inr, eq-zero-or-pos, arith}
 use lib.Arith.{le_of_le-suc-ne}
 use Rattle.std.proofs.lemmas.Bool.Decides.{leb_tells}
 use Rattle.motion.specs.Reach.{reach}
@@ -37,6 +37,11 @@ largest_only rate distance top s l =
       k.most s l.within l.fits,
     )
 
+-- only a speed above 0 does not fit
+pub moving : (rate distance s : ℕ) → distance < reach rate s → 0 < s
+moving rate distance s h =
+    elim (eq-zero-or-pos s) [ inl e ↦ omega (arith, ap (reach rate) e, reach_zero rate) | inr p ↦ p ]
+
 -- a speed that fits, below one that does not
 pub largest_next : (rate distance top s : ℕ) → 0 < rate → s ≤ top → reach rate s ≤ distance → distance < reach rate (s + 1)
     → Largest rate distance top s
@@ -45,3 +50,15 @@ largest_next rate distance top s h w f over =
   where
     either : (t : ℕ) → (t ≤ s) ⊎ (s + 1 ≤ t)
     either t = search arith
+
+-- a top that fits is the greatest
+pub largest_top : (rate distance top : ℕ) → reach rate top ≤ distance → Largest rate distance top top
+largest_top rate distance top f = record { within = omega arith; fits = f; most = λ t h _. h }
+
+-- what `largest` finds where the top fits, and where it does not
+pub largest_all : (rate distance top : ℕ) → reach rate top ≤ distance → top ≡ largest rate distance top
+largest_all rate distance top f = largest_only rate distance top top (largest_top rate distance top f)
+
+pub largest_found : (rate distance top s : ℕ) → 0 < rate → s ≤ top → reach rate s ≤ distance → distance < reach rate (s + 1)
+    → s ≡ largest rate distance top
+largest_found rate distance top s h w f over = largest_only rate distance top s (largest_next rate distance top s h w f over)

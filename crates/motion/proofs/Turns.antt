@@ -1,10 +1,10 @@
 -- Positions that wrap, and their microsteps.
-use Rattle.std.proofs.Common.{◌≡◌, ℕ, ◌+◌, ◌*◌, ◌%◌, ◌^◌, ◌<◌, Bool, true, false, not, ◌||◌, ℤ, pos, negsuc, ◌+ℤ◌, neg_ℤ, nat_abs, sym, refl, ap, ◌∙◌, subst, mod-eq_of_lt, arith}
+use Rattle.std.proofs.Common.{◌≡◌, ℕ, ◌+◌, ◌*◌, ◌%◌, ◌<◌, Bool, true, false, not, ◌||◌, ℤ, pos, ◌+ℤ◌, neg_ℤ, nat_abs, sym, refl, ap, ◌∙◌, subst, mod-eq_of_lt, arith}
 use native.Mathlib.Nat.{add-mul-mod_self_right}
 use lib.Signed.{lt_z, le_z}
 use Rattle.std.specs.Int.{int_rem_euclid}
 use Rattle.std.proofs.lemmas.Int.{ints, int_rem_euclid_is}
-use Rattle.motion.specs.Course.{Within, wrap, wraps, whole_steps}
+use Rattle.motion.specs.Course.{Within, wrap, wraps}
 
 -- the number in range that lies whole turns away, j up or k down
 pub wrap_is : (half : ℕ) (z r : ℤ) (k j : ℕ) → Within half r → z +ℤ pos (k * (2 * half)) ≡ r +ℤ pos (j * (2 * half)) → wrap half z ≡ r
@@ -45,9 +45,3 @@ wraps_is half z r false w e s d = go (wraps half z) refl
     go : (b : Bool) → wraps half z ≡ b → true ≡ wraps half z
     go true f = sym f
     go false f = absurd (d refl (e ∙ wrap_is half z z 0 0 (in_range half z f) refl))
-
--- the microsteps of a target position fit a destination's range
-pub steps_within : (p : ℤ) → Within (2 ^ 46) p → Within (2 ^ 30) (whole_steps p)
-unfolding whole_steps
-steps_within (pos n) w = record { low = omega (arith, ints); high = omega (arith, ints, w.high) }
-steps_within (negsuc n) w = record { low = omega (arith, ints, w.low); high = omega (arith, ints) }

@@ -1,11 +1,8 @@
-ghost use Rattle.std.specs.Prelude.{◌≡◌, ◌+◌, ◌-◌, ◌*◌, ◌^◌, ◌<◌, ◌≤◌, max, pos, ◌-ℤ◌, ◌≤ℤ◌, ◌<ℤ◌, unsigned_abs};
-ghost use Rattle.motion.specs.Reach.{reach};
-ghost use Rattle.motion.specs.Course.{Within, advanced, along, counted, crosses, cruise, distance_to, halts, pace, toward, trapezoid, whole_steps, wrap};
-
-use crate::speed::largest;
+ghost use Rattle.std.specs.Prelude.{◌≡◌, ◌*◌, ◌^◌, ◌<◌, ◌≤◌, max, pos, ◌-ℤ◌, ◌≤ℤ◌, ◌<ℤ◌, unsigned_abs};
+ghost use Rattle.motion.specs.Course.{Within, advanced, along, counted, crosses, cruise, distance_to, halts, toward, whole_steps, wrap};
 
 // A microstep in the unit of target positions.
-const MICROSTEP: i64 = 65_536;
+pub const MICROSTEP: i64 = 65_536;
 
 // Target positions run from -POSITION_END to POSITION_END - 1.
 const POSITION_END: i64 = 1 << 46;
@@ -15,7 +12,9 @@ const COUNT_END: i64 = 1 << 30;
 
 // `v` moved toward the target by at most `by`.
 pub fn toward(v: i32, target: i32, by: u32) -> i32
-    requires { (unsigned_abs v < 2 ^ 30) × ((unsigned_abs target < 2 ^ 30) × (by ≤ 2 ^ 30)) }
+    requires speed { unsigned_abs v < 2 ^ 30 }
+    requires target { unsigned_abs target < 2 ^ 30 }
+    requires by { by ≤ 2 ^ 30 }
     ensures is { result ≡ toward v target by }
     ensures size { unsigned_abs result ≤ max (unsigned_abs v) (unsigned_abs target) }
     ensures step { unsigned_abs (result -ℤ v) ≤ by }
@@ -25,7 +24,8 @@ pub fn toward(v: i32, target: i32, by: u32) -> i32
 }
 
 // The size with the sign of `d`.
-fn along(d: i64, size: u32) -> i32
+#[tactic(auto, using(crate::proofs::Velocities::along_back, crate::proofs::Velocities::along_on))]
+pub(crate) fn along(d: i64, size: u32) -> i32
     requires { size < 2 ^ 30 }
     ensures is { result ≡ along d size }
     ensures size { unsigned_abs result ≡ size }
@@ -33,22 +33,9 @@ fn along(d: i64, size: u32) -> i32
     if d < 0 { -(size as i32) } else { size as i32 }
 }
 
-// The next speed of a gate that runs toward its destination, or stands.
-fn pace(speed: u32, top: u32, rate: u32, distance: u64) -> u32
-    requires { (speed < 2 ^ 30) × ((top < 2 ^ 30) × ((1 ≤ rate) × (rate ≤ 2 ^ 30))) }
-    ensures is { result ≡ pace speed top rate distance }
-    ensures range { result < 2 ^ 30 }
-{
-    let slowed = speed.saturating_sub(rate);
-    let limit = top.min(speed + rate);
-    if slowed >= limit {
-        return slowed;
-    }
-    largest(rate, distance, slowed, limit).max(slowed)
-}
-
 // Whether nothing is left to travel, or `v` runs against the distance.
-fn halts(v: i32, distance: i64) -> bool
+#[tactic(auto, using(crate::proofs::Velocities::halts_on, crate::proofs::Velocities::halts_back, crate::proofs::Velocities::halts_there))]
+pub(crate) fn halts(v: i32, distance: i64) -> bool
     ensures { result ≡ halts v distance }
 {
     if distance > 0 {
@@ -60,25 +47,12 @@ fn halts(v: i32, distance: i64) -> bool
     }
 }
 
-// The next velocity on the way to a destination at the distance. A gate that can stop within the distance still can after this cycle.
-pub fn trapezoid(v: i32, top: u32, rate: u32, distance: i64) -> i32
-    requires { (unsigned_abs v < 2 ^ 30) × ((top < 2 ^ 30) × ((1 ≤ rate) × (rate ≤ 2 ^ 30))) }
-    ensures is { result ≡ trapezoid v top rate distance }
-    ensures size { unsigned_abs result ≤ max (unsigned_abs v) top }
-    ensures step { unsigned_abs (result -ℤ v) ≤ rate }
-    ensures stops { reach rate (unsigned_abs v - rate) ≤ unsigned_abs distance → unsigned_abs result + reach rate (unsigned_abs result - rate) ≤ unsigned_abs distance }
-    ensures range { unsigned_abs result < 2 ^ 30 }
-{
-    if halts(v, distance) {
-        return toward(v, 0, rate);
-    }
-    let speed = pace(v.unsigned_abs(), top, rate, distance.unsigned_abs());
-    along(distance, speed)
-}
-
 // The next velocity toward `top` in the direction of the acceleration.
+#[tactic(auto, unfolding(crate::specs::Course::cruise))]
 pub fn cruise(v: i32, top: u32, acceleration: i32) -> i32
-    requires { (unsigned_abs v < 2 ^ 30) × ((top < 2 ^ 30) × (unsigned_abs acceleration ≤ 2 ^ 30)) }
+    requires speed { unsigned_abs v < 2 ^ 30 }
+    requires top { top < 2 ^ 30 }
+    requires acceleration { unsigned_abs acceleration ≤ 2 ^ 30 }
     ensures is { result ≡ cruise v top acceleration }
     ensures size { unsigned_abs result ≤ max (unsigned_abs v) top }
     ensures step { unsigned_abs (result -ℤ v) ≤ unsigned_abs acceleration }
@@ -90,7 +64,8 @@ pub fn cruise(v: i32, top: u32, acceleration: i32) -> i32
 
 // `z` brought into -half .. half - 1, from at most a turn outside.
 fn wrapped(z: i64, half: i64) -> i64
-    requires half { (pos 0 <ℤ half) × (half ≤ℤ pos (2 ^ 46)) }
+    requires positive { pos 0 <ℤ half }
+    requires bounded { half ≤ℤ pos (2 ^ 46) }
     requires near { Within (2 * unsigned_abs half) z }
     ensures is { result ≡ wrap (unsigned_abs half) z }
     ensures range { Within (unsigned_abs half) result }
@@ -104,9 +79,10 @@ fn wrapped(z: i64, half: i64) -> i64
     }
 }
 
-// The target position a cycle later, and whether it crossed an end of its range.
+// The target position a cycle later, and whether it crossed an end of its range: both always hold, as of `overflowing_add`.
 pub fn advanced(p: i64, v: i32) -> (i64, bool)
-    requires { (Within (2 ^ 46) p) × (unsigned_abs v < 2 ^ 30) }
+    requires position { Within (2 ^ 46) p }
+    requires speed { unsigned_abs v < 2 ^ 30 }
     ensures is { result.0 ≡ advanced p v }
     ensures crossed { result.1 ≡ crosses p v }
     ensures range { Within (2 ^ 46) result.0 }
@@ -117,6 +93,7 @@ pub fn advanced(p: i64, v: i32) -> (i64, bool)
 }
 
 // The microsteps of a target position, rounded down.
+#[tactic(auto, unfolding(crate::specs::Course::whole_steps))]
 pub fn whole_steps(p: i64) -> i32
     requires { Within (2 ^ 46) p }
     ensures is { result ≡ whole_steps p }
@@ -126,8 +103,10 @@ pub fn whole_steps(p: i64) -> i32
 }
 
 // From the target position to a destination in microsteps.
+#[tactic(auto, unfolding(crate::specs::Course::distance_to))]
 pub fn distance(destination: i32, p: i64) -> i64
-    requires { (Within (2 ^ 30) destination) × (Within (2 ^ 46) p) }
+    requires destination { Within (2 ^ 30) destination }
+    requires position { Within (2 ^ 46) p }
     ensures is { result ≡ distance_to destination p }
     ensures range { unsigned_abs result < 2 ^ 47 }
 {

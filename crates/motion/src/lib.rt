@@ -2,7 +2,6 @@
 #![tactic(auto)]
 
 pub mod course;
-pub mod reach;
-pub mod speed;
+pub mod rate;
 #[cfg(test)]
 mod tests;

@@ -1,56 +1,64 @@
-use crate::course::{advanced, counted, cruise, distance, toward, trapezoid, whole_steps};
-use crate::reach::{fits, reach};
-use crate::speed::largest;
+use crate::course::{advanced, counted, cruise, distance, toward, whole_steps};
+use crate::rate::Rate;
 
 #[test]
 fn reaches(rt: HostRuntime) {
-    assert_eq!(rt; reach(32_768, 16_384), 49_152);
-    assert_eq!(rt; reach(65_535, 65_535), 65_535);
-    assert_eq!(rt; reach(1_073_741_823, 7), 82_351_536_426_825_435);
-    assert!(rt; fits(32_768, 16_384, 49_152));
-    assert!(rt; !fits(32_768, 16_384, 49_151));
+    assert_eq!(rt; Rate { size: 16_384 }.reach(32_768), 49_152);
+    assert_eq!(rt; Rate { size: 65_535 }.reach(65_535), 65_535);
+    assert_eq!(rt;
+        Rate { size: 7 }.reach(1_073_741_823),
+        82_351_536_426_825_435
+    );
+    assert!(rt; Rate { size: 16_384 }.fits(32_768, 49_152));
+    assert!(rt; !Rate { size: 16_384 }.fits(32_768, 49_151));
 }
 
 #[test]
 fn searches(rt: HostRuntime) {
     assert_eq!(rt;
-        largest(1901, 17_515_529_401_685, 0, 1_073_741_823),
+        Rate { size: 1901 }.largest(17_515_529_401_685, 0, 1_073_741_823),
         258_057_265
     );
     assert_eq!(rt;
-        largest(817, 10_916_795_706_014, 1_073_741_822, 1_073_741_823),
+        Rate { size: 817 }.largest(10_916_795_706_014, 1_073_741_822, 1_073_741_823),
         133_558_732
     );
-    assert_eq!(rt; largest(16_384, 49_152, 5, 40_000), 32_768);
+    assert_eq!(rt; Rate { size: 16_384 }.largest(49_152, 5, 40_000), 32_768);
 }
 
 #[test]
 fn travels(rt: HostRuntime) {
-    assert_eq!(rt; trapezoid(0, 40_000, 16_384, 65_536), 16_384);
-    assert_eq!(rt; trapezoid(16_384, 40_000, 16_384, 49_152), 32_768);
-    assert_eq!(rt; trapezoid(32_768, 40_000, 16_384, 16_384), 16_384);
-    assert_eq!(rt; trapezoid(16_384, 40_000, 16_384, 0), 0);
-    assert_eq!(rt; trapezoid(0, 65_536, 65_535, 65_536), 65_535);
-    assert_eq!(rt; trapezoid(65_535, 65_536, 65_535, 1), 1);
-    assert_eq!(rt; trapezoid(1, 65_536, 65_535, 0), 0);
+    assert_eq!(rt; Rate { size: 16_384 }.trapezoid(0, 40_000, 65_536), 16_384);
+    assert_eq!(rt;
+        Rate { size: 16_384 }.trapezoid(16_384, 40_000, 49_152),
+        32_768
+    );
+    assert_eq!(rt;
+        Rate { size: 16_384 }.trapezoid(32_768, 40_000, 16_384),
+        16_384
+    );
+    assert_eq!(rt; Rate { size: 16_384 }.trapezoid(16_384, 40_000, 0), 0);
+    assert_eq!(rt; Rate { size: 65_535 }.trapezoid(0, 65_536, 65_536), 65_535);
+    assert_eq!(rt; Rate { size: 65_535 }.trapezoid(65_535, 65_536, 1), 1);
+    assert_eq!(rt; Rate { size: 65_535 }.trapezoid(1, 65_536, 0), 0);
 }
 
 #[test]
 fn travels_far(rt: HostRuntime) {
     assert_eq!(rt;
-        trapezoid(324_129_321, 692_373_955, 43_445, -99_960_861_458_480),
+        Rate { size: 43_445 }.trapezoid(324_129_321, 692_373_955, -99_960_861_458_480),
         324_085_876
     );
     assert_eq!(rt;
-        trapezoid(-949_190_085, 894_199_319, 102_119_940, -119_631_096_941_108),
+        Rate { size: 102_119_940 }.trapezoid(-949_190_085, 894_199_319, -119_631_096_941_108),
         -894_199_319
     );
     assert_eq!(rt;
-        trapezoid(273_660_763, 945_564_878, 75_115, 82_573_261_146_869),
+        Rate { size: 75_115 }.trapezoid(273_660_763, 945_564_878, 82_573_261_146_869),
         273_735_878
     );
     assert_eq!(rt;
-        trapezoid(-73_869_431, 605_748_411, 731_622_485, 62_815_843_116_080),
+        Rate { size: 731_622_485 }.trapezoid(-73_869_431, 605_748_411, 62_815_843_116_080),
         0
     );
 }

@@ -1,5 +1,5 @@
 -- The facts of the quarter wave, each by one computed test.
-use Rattle.std.proofs.Common.{◌≡◌, ℕ, ◌+◌, ◌-◌, ◌*◌, ◌<◌, ◌≤◌, ltb, leb, get_or, arith, ltb→lt, leb→le}
+use Rattle.std.proofs.Common.{◌≡◌, ℕ, ◌+◌, ◌-◌, ◌*◌, ◌<◌, ltb, get_or, arith, ltb→lt}
 use Rattle.wave.specs.Quarter.{quarter, Near, Rising, Circular, Even, Sine}
 use Rattle.wave.proofs.Every.{at, nearb, near}
 
@@ -29,7 +29,3 @@ even k low h =
 
 pub sine : Sine 64 quarter
 sine = record { rising = rising; circular = circular; even = even }
-
--- no entry is above 32,767
-pub low : (k : ℕ) → k ≤ 64 → get_or quarter k 0 ≤ 32767
-low k h = leb→le (get_or quarter k 0) 32767 (at (λ k. leb (get_or quarter k 0) 32767) 65 tt k (omega arith))

@@ -83,10 +83,9 @@ mod tests {
 
     #[test]
     fn table_is_nearest_to_the_sine(rt: HostRuntime) {
-        let table = quarter();
-        for k in 0..65 {
-            let entry = u64::from(table[k]) * 1_000_000;
-            assert!(rt; entry.abs_diff(SINES[k]) <= 500_000);
+        for (entry, sine) in quarter().iter().zip(&SINES) {
+            let millionths = u64::from(*entry) * 1_000_000;
+            assert!(rt; millionths.abs_diff(*sine) <= 500_000);
         }
     }
 

@@ -1,7 +1,10 @@
-ghost use Rattle.std.specs.Prelude.{◌≡◌, ◌*◌, ◌/◌, ◌≤◌, unsigned_abs};
+ghost use Rattle.std.specs.Prelude.{◌≡◌, ◌≤◌, unsigned_abs};
 ghost use Rattle.wave.specs.Phases.{angle, lead, scaled, phases};
 
 use crate::wave::wave_at;
+
+// The greatest value of the wave.
+const FULL_SCALE: i32 = 32_767;
 
 #[derive(Clone, Copy, PartialEq, Eq, Debug)]
 pub enum MotorKind {
@@ -28,21 +31,13 @@ pub fn angle(position: i32) -> u8
     position.rem_euclid(256) as u8
 }
 
-fn scaled_size(power: u16, size: u32) -> u32
-    requires { size ≤ 32767 }
-    ensures is { result ≡ size * power / 32767 }
-    ensures bound { result ≤ power }
-{
-    size * u32::from(power) / 32767
-}
-
+// A number times the power over full scale, cut toward zero.
 fn scaled(power: u16, x: i32) -> i32
     requires { unsigned_abs x ≤ 32767 }
     ensures is { result ≡ scaled power x }
     ensures bound { unsigned_abs result ≤ power }
 {
-    let size = scaled_size(power, x.unsigned_abs()) as i32;
-    if x < 0 { -size } else { size }
+    x * i32::from(power) / FULL_SCALE
 }
 
 // What the phases A and B of a motor are driven with at a position.

@@ -9,23 +9,17 @@ const QUARTER: [u16; 65] = [
     31971, 32137, 32285, 32412, 32521, 32609, 32678, 32728, 32757, 32767,
 ];
 
-fn table() -> [u16; 65]
-    ensures { result ≡ quarter }
-{
-    QUARTER
-}
-
 // The quarter wave: the whole numbers nearest 32,767 × sin(k × 90° / 64), for k from 0 to 64.
 pub fn quarter() -> [u16; 65]
     ensures is { result ≡ quarter }
     ensures sine { Sine 64 result }
 {
-    table()
+    QUARTER
 }
 
 pub(crate) fn entry(k: u8) -> u16
     requires { k ≤ 64 }
     ensures { result ≡ slice_index quarter k }
 {
-    QUARTER[k as usize]
+    QUARTER[usize::from(k)]
 }

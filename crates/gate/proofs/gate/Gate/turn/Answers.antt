@@ -1,20 +1,17 @@
-use Rattle.std.proofs.Common.{◌≡◌, ℤ, sym, ap, ◌∙◌, subst, w16, to_z, of_z}
-use Rattle.std.proofs.lemmas.Int.{to_z-of_z}
+use Rattle.std.proofs.Common.{◌≡◌, sym, subst}
 use Rattle.gate.specs.declared.gate.Gate.{Gate}
-use Rattle.gate.specs.Cycles.{brought, cycled}
+use Rattle.gate.specs.Cycles.{cycled}
 use Rattle.gate.specs.Laws.{Paced, Ordered}
 use Rattle.gate.proofs.Steps.{chained, cycle_paced, cycle_ordered}
 use Rattle.gate.proofs.gate.Gate.turn.Goals as goal
 
 pub returns : goal.returns
 returns c =
-    let by = λ (count : ℤ). brought count c.args.positive c.args.negative c.args.home in
-    let i = by c.args.count in
+    let i = c.args.inputs in
     let g = c.args.self.now in
-    let steps =
-    chained (by (to_z w16 (of_z w16 c.args.count))) g c.tick.new.self c.encode.new.self c.trip.new.self c.meet.new.self c.advance.new.self c.settle.new.self
+    let is : c.settle.new.self ≡ cycled i g =
+    chained i g c.tick.new.self c.encode.new.self c.trip.new.self c.meet.new.self c.advance.new.self c.settle.new.self
     c.tick.ensures.is c.encode.ensures.is c.trip.ensures.is c.meet.ensures.is c.advance.ensures.is c.settle.ensures.is in
-    let is : c.settle.new.self ≡ cycled i g = steps ∙ ap (λ (n : ℤ). cycled (by n) g) (to_z-of_z w16 c.args.count c.ranges.count) in
     record {
       is = is;
       sound = c.settle.ensures.sound;

@@ -1,8 +1,8 @@
 use borrow.Author.Tests.{true-leb, false-leb}
 use Rattle.std.proofs.Common.{◌≡◌, ℕ, suc, ◌+◌, ◌-◌, ◌*◌, ◌/◌, ◌^◌, ◌<◌, ap, ◌∙◌, pow-suc, arith}
 use Rattle.motion.specs.Reach.{reach}
-use Rattle.motion.proofs.speed.bisect.Goals as goal
-use Rattle.motion.proofs.speed.bisect.Goals.{then-fits, else-fits}
+use Rattle.motion.proofs.rate.Rate.bisect.Goals as goal
+use Rattle.motion.proofs.rate.Rate.bisect.Goals.{then-fits, else-fits}
 
 -- one halving fewer is left after a turn
 halving : (turn : ℕ) → turn < 29 → 2 ^ (29 - turn) ≡ 2 ^ (29 - (turn + 1)) * 2
@@ -13,7 +13,7 @@ halving turn h =
 pub loop-turn-preserved : goal.loop-turn-preserved
 loop-turn-preserved c =
     let h = halving c.loop-turn._turn c.loop-turn-test.true in
-    let at = reach c.args.rate in
+    let at = reach c.args.self.size in
     let middle = (c.loop-turn.low + c.loop-turn.high) / 2 in
     elim c.if-fits.branch [
       | then-fits w ↦
@@ -25,15 +25,3 @@ loop-turn-preserved c =
           let high : at c.if-fits.high ≡ at middle = ap at w.high-is in
           omega (arith, false-leb (at middle) c.args.distance w.if-fits.ensures)
     ]
-
-pub returns-after-loop-turn : goal.returns-after-loop-turn
-returns-after-loop-turn c =
-    let e : 29 - c.loop-turn._turn ≡ 0 = omega arith in
-    let p : 2 ^ (29 - c.loop-turn._turn) ≡ 1 = ap (λ (k : ℕ). 2 ^ k) e in
-    let s : c.loop-turn.low + 1 ≡ c.loop-turn.high = omega arith in
-    record { within = omega arith; fits = omega arith; over = omega (arith, ap (reach c.args.rate) s) }
-
-pub returns-then-high-low-eq1 : goal.returns-then-high-low-eq1
-returns-then-high-low-eq1 c =
-    let s : c.loop-turn.low + 1 ≡ c.loop-turn.high = omega arith in
-    record { within = omega arith; fits = omega arith; over = omega (arith, ap (reach c.args.rate) s) }

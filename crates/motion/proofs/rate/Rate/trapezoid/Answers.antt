@@ -2,11 +2,11 @@ use Rattle.std.proofs.Common.{◌≡◌, ◌∙◌, arith, w32}
 use Rattle.std.proofs.lemmas.Int.{ints, to_z-of_z}
 use Rattle.motion.specs.Course.{trapezoid}
 use Rattle.motion.proofs.Velocities.{trapezoid_halts, trapezoid_runs, trapezoid_size, trapezoid_step, trapezoid_stops}
-use Rattle.motion.proofs.course.trapezoid.Goals as goal
+use Rattle.motion.proofs.rate.Rate.trapezoid.Goals as goal
 
 pub returns-then-halts : goal.returns-then-halts
 returns-then-halts c =
-    let last : c.toward.result ≡ trapezoid c.args.v c.args.top c.args.rate c.args.distance =
+    let last : c.toward.result ≡ trapezoid c.args.v c.args.top c.args.self.size c.args.distance =
     grind (arith, to_z-of_z, trapezoid_halts)
     in
     let is = to_z-of_z w32 c.toward.result (record { sfits = c.toward.type_inv }) ∙ last in
@@ -20,7 +20,7 @@ returns-then-halts c =
 
 pub returns : goal.returns
 returns c =
-    let last : c.along.result ≡ trapezoid c.args.v c.args.top c.args.rate c.args.distance =
+    let last : c.along.result ≡ trapezoid c.args.v c.args.top c.args.self.size c.args.distance =
     grind (arith, to_z-of_z, trapezoid_runs)
     in
     let is = to_z-of_z w32 c.along.result (record { sfits = c.along.type_inv }) ∙ last in

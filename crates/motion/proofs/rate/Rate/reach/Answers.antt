@@ -2,7 +2,7 @@ use Rattle.std.proofs.Common.{◌≡◌, ◌+◌, ◌*◌, ◌/◌, ◌^◌, ari
 use Rattle.std.proofs.lemmas.Nat.{mul-lt}
 use Rattle.motion.specs.Reach.{reach}
 use Rattle.motion.proofs.Falling.{reach_closed}
-use Rattle.motion.proofs.reach.reach.Goals as goal
+use Rattle.motion.proofs.rate.Rate.reach.Goals as goal
 
 -- the closed form, of what is computed
 closed : (c : goal.After-from-2)

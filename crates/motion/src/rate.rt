@@ -1,0 +1,120 @@
+ghost use Rattle.std.specs.Prelude.{◌≡◌, ◌+◌, ◌-◌, ◌^◌, ◌<◌, ◌≤◌, max, nat_le, ◌-ℤ◌, unsigned_abs};
+ghost use Rattle.motion.specs.Reach.{reach};
+ghost use Rattle.motion.specs.Speed.{largest, Largest};
+ghost use Rattle.motion.specs.Course.{pace, trapezoid};
+
+use crate::course::{along, halts, toward};
+
+// The widest span that `bisect` takes: 29 halvings leave 1 of it.
+const SPAN: u32 = 1 << 29;
+
+const HALVINGS: u32 = 29;
+
+// By how much the speed of a gate may change in a cycle. Velocities and positions stay plain numbers: a gate's record holds them so, and a
+// call would only wrap them and take the answer out again.
+#[derive(Clone, Copy, PartialEq, Eq, Debug)]
+pub struct Rate {
+    pub size: u32,
+    pub ghost positive: { 1 ≤ size },
+    pub ghost bounded: { size ≤ 2 ^ 30 },
+}
+
+impl Rate {
+    // The reach of a speed: the distance that a gate still travels if it runs at that speed now and then slows by the rate each cycle.
+    pub fn reach(self, speed: u32) -> u64
+        requires { speed < 2 ^ 30 }
+        ensures { result ≡ reach self.size speed }
+    {
+        let terms = u64::from((speed + self.size - 1) / self.size);
+        let pairs = terms * terms.saturating_sub(1) / 2;
+        terms * u64::from(speed) - u64::from(self.size) * pairs
+    }
+
+    // Whether a gate at that speed can still stop within the distance.
+    pub fn fits(self, speed: u32, distance: u64) -> bool
+        requires { speed < 2 ^ 30 }
+        ensures { result ≡ nat_le (reach self.size speed) distance }
+    {
+        self.reach(speed) <= distance
+    }
+
+    // Narrows a span whose low end fits and whose high end does not, by at most 29 questions.
+    fn bisect(self, distance: u64, mut low: u32, mut high: u32) -> u32
+        requires order { low < high }
+        requires speed { high < 2 ^ 30 }
+        requires span { high ≤ low + 2 ^ 29 }
+        requires fits { reach self.size low ≤ distance }
+        requires over { distance < reach self.size high }
+        ensures within { result < high }
+        ensures fits { reach self.size result ≤ distance }
+        ensures over { distance < reach self.size (result + 1) }
+    {
+        for _turn in 0..HALVINGS {
+            if high - low == 1 {
+                break;
+            }
+            let middle = (low + high) / 2;
+            if self.fits(middle, distance) {
+                low = middle;
+            } else {
+                high = middle;
+            }
+        }
+        low
+    }
+
+    // The greatest speed up to `top` whose reach is at most the distance, by at most 31 questions. `floor`, a speed that the answer is
+    // likely to be near, only changes what is asked.
+    #[tactic(auto, using(crate::proofs::Falling::reach_zero, crate::proofs::Fastest::largest_all, crate::proofs::Fastest::largest_found))]
+    pub fn largest(self, distance: u64, floor: u32, top: u32) -> u32
+        requires { top < 2 ^ 30 }
+        ensures is { result ≡ largest self.size distance top }
+        ensures best { Largest self.size distance top result }
+    {
+        if self.fits(top, distance) {
+            return top;
+        }
+        let pivot = floor.clamp(top.saturating_sub(SPAN), SPAN);
+        if pivot == 0 || pivot >= top {
+            return self.bisect(distance, 0, top);
+        }
+        if self.fits(pivot, distance) {
+            self.bisect(distance, pivot, top)
+        } else {
+            self.bisect(distance, 0, pivot)
+        }
+    }
+
+    // The next speed of a gate that runs toward its destination, or stands.
+    #[tactic(auto, using(crate::proofs::Velocities::pace_slowed), unfolding(crate::specs::Course::pace))]
+    fn pace(self, speed: u32, top: u32, distance: u64) -> u32
+        requires speed { speed < 2 ^ 30 }
+        requires top { top < 2 ^ 30 }
+        ensures is { result ≡ pace speed top self.size distance }
+        ensures range { result < 2 ^ 30 }
+    {
+        let slowed = speed.saturating_sub(self.size);
+        let limit = top.min(speed + self.size);
+        if slowed >= limit {
+            return slowed;
+        }
+        self.largest(distance, slowed, limit).max(slowed)
+    }
+
+    // The next velocity on the way to a destination at the distance. A gate that can stop within the distance still can after this cycle.
+    pub fn trapezoid(self, v: i32, top: u32, distance: i64) -> i32
+        requires speed { unsigned_abs v < 2 ^ 30 }
+        requires top { top < 2 ^ 30 }
+        ensures is { result ≡ trapezoid v top self.size distance }
+        ensures size { unsigned_abs result ≤ max (unsigned_abs v) top }
+        ensures step { unsigned_abs (result -ℤ v) ≤ self.size }
+        ensures stops { reach self.size (unsigned_abs v - self.size) ≤ unsigned_abs distance → unsigned_abs result + reach self.size (unsigned_abs result - self.size) ≤ unsigned_abs distance }
+        ensures range { unsigned_abs result < 2 ^ 30 }
+    {
+        if halts(v, distance) {
+            return toward(v, 0, self.size);
+        }
+        let speed = self.pace(v.unsigned_abs(), top, distance.unsigned_abs());
+        along(distance, speed)
+    }
+}
