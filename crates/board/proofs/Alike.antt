@@ -37,8 +37,8 @@ module _ {S : Type 0} (m : Ghosts S) (b : Board S m) (h : List Act) (k : ℕ) (l
   gate_is : gate_of (state_of b.table) k ≡ alone (own k h)
   gate_is = ap (λ s. gate_of s k) c.state ∙ replayed k l h
 
-  pair_is : shown_of (m.pairs b.stage) k ≡ cut_pair m.step (display (own k h))
-  pair_is = ap (λ p. shown_of p k) c.pairs ∙ (shown_cuts m.step (given_after h) k l ∙ ap (cut_pair m.step) (displayed k l h))
+  pair_is : shown_of (m.pairs b.stage) k ≡ cut_pair m.STEP (display (own k h))
+  pair_is = ap (λ p. shown_of p k) c.pairs ∙ (shown_cuts m.STEP (given_after h) k l ∙ ap (cut_pair m.STEP) (displayed k l h))
 
   active_is : (gate_of (state_of b.table) k).active ≡ (book (own k h)).latched
   active_is = ap (λ g. g.active) gate_is ∙ (booked (own k h)).latched
@@ -48,11 +48,11 @@ pub booked_board : {S : Type 0} (m : Ghosts S) (b : Board S m) → Booked m b
 booked_board m b k l h c = active_is m b h k l c
 
 -- of two
-pub isolated : {S R : Type 0} (m : Ghosts S) (b : Board S m) (n : Ghosts R) (d : Board R n) → 1 ≤ m.step → 1 ≤ n.step → Isolated m b n d
+pub isolated : {S R : Type 0} (m : Ghosts S) (b : Board S m) (n : Ghosts R) (d : Board R n) → 1 ≤ m.STEP → 1 ≤ n.STEP → Isolated m b n d
 isolated m b n d low low' k l h i came came' e =
     let x = pair_is m b h k l came in
-    let y = pair_is n d i k l came' ∙ ap (λ es. cut_pair n.step (display es)) (sym e) in
-    let near = λ (z : ℤ). cut_near m.step n.step low low' z in
+    let y = pair_is n d i k l came' ∙ ap (λ es. cut_pair n.STEP (display es)) (sym e) in
+    let near = λ (z : ℤ). cut_near m.STEP n.STEP low low' z in
     record {
       record_same = gate_is m b h k l came ∙ (ap alone e ∙ sym (gate_is n d i k l came'));
       answers_same = answered k l h ∙ (ap (λ es. replies k es (fresh false)) e ∙ sym (answered k l i));

@@ -1,5 +1,4 @@
 pub mod Tables
-pub mod Fitting
 pub mod Owed
 pub mod Lists
 pub mod Books

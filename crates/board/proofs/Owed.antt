@@ -48,9 +48,9 @@ module _ {S : Type 0} (m : Ghosts S) where
   pairs_still b act_take e h = refl
   pairs_still b (act_close j w) e h = refl
 
-  pairs_on : (b : Board S m) (a : Act) (s : State) (p : Pairs) → state_of b.table ≡ s → m.pairs b.stage ≡ cuts m.step p → pairs_after m b a ≡ cuts m.step (given s a p)
-  pairs_on b (act_cycle i j) s p e h = ap (λ z. cuts m.step (given z (act_cycle i j) dark)) e
-  pairs_on b act_reset s p e h = dark_cuts m.step
+  pairs_on : (b : Board S m) (a : Act) (s : State) (p : Pairs) → state_of b.table ≡ s → m.pairs b.stage ≡ cuts m.STEP p → pairs_after m b a ≡ cuts m.STEP (given s a p)
+  pairs_on b (act_cycle i j) s p e h = ap (λ z. cuts m.STEP (given z (act_cycle i j) dark)) e
+  pairs_on b act_reset s p e h = dark_cuts m.STEP
   pairs_on b (act_command x) s p e h = h
   pairs_on b (act_write w) s p e h = h
   pairs_on b act_read s p e h = h

@@ -1,5 +1,6 @@
 -- The acts on a board: where each leads, and what it answers and leaves.
 use Rattle.std.specs.Prelude.{ℕ, ◌/◌, ◌%◌, ◌<◌, Bool, false, cond, not, ◌&&◌, List, [], ◌∷◌, pos, Some, None, Ok, Err, Option, Result, ◌==◌, nat_lt, slice_index_or}
+use Rattle.std.proofs.Props.{props}
 use Rattle.gate.specs.declared.gate.Gate.{Gate}
 use Rattle.gate.specs.declared.inputs.Inputs.{Inputs}
 use Rattle.gate.specs.declared.orders.Order.TheVariants.{Update}
@@ -243,3 +244,11 @@ pub record Fit (t : Table) : Type 0 where
   pub current : t.current < 2
   pub one : Sound (slice_index_or t.gates 0 blank)
   pub two : Sound (slice_index_or t.gates 1 blank)
+
+-- what a board says of its table, shut, so that a proof above it does not look at each register
+unfoldable pub Holds : Table → Type 0
+Holds t = Fit t
+
+pub holds_once : (t : Table) → IsProp (Holds t)
+unfolding Holds
+holds_once t = Prim.hlevel props

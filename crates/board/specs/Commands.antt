@@ -1,5 +1,6 @@
 -- The codes of the commands, and how many words a packet takes and gives.
-use Rattle.std.specs.Prelude.{ℕ, true, false, cond, Some, None, Option, ◌==◌}
+use Rattle.std.specs.Prelude.{◌≡◌, ℕ, true, false, cond, Some, None, Option, Result, ◌==◌}
+use Rattle.std.specs.Option.{ok_or}
 use Rattle.wave.specs.declared.phases.MotorKind.TheVariants as motor
 use Rattle.gate.specs.declared.breakpoint.BreakMode.TheVariants as break
 use Rattle.gate.specs.declared.profile.ProfileMode.TheVariants as mode
@@ -9,6 +10,8 @@ use Rattle.gate.specs.declared.orders.LongOrder.TheVariants as long
 use Rattle.gate.specs.declared.queries.Query.TheVariants as query
 use Rattle.board.specs.declared.command.Whose.TheVariants.{First, Second, Calling, Current}
 use Rattle.board.specs.declared.command.Command.{Command}
+use Rattle.board.specs.declared.refusal.Refusal.{Refusal}
+use Rattle.board.specs.declared.refusal.Refusal.TheVariants.{Unknown}
 use Rattle.board.specs.declared.command.Command.TheVariants.{Status, Ask, Now, Word, Long, MultiUpdate}
 
 abbrev pub code_table : ℕ → Option Command
@@ -54,6 +57,14 @@ code_table b =
 -- the table, shut, so that a proof above it does not look at each code
 unfoldable pub decoded : ℕ → Option Command
 decoded b = code_table b
+
+-- a code that no command has is refused
+abbrev pub Decodes : ℕ → Result Command Refusal → Type 0
+Decodes b r = r ≡ ok_or (decoded b) Unknown
+
+-- a command's code names it
+abbrev pub Encodes : Command → ℕ → Type 0
+Encodes c b = code_table b ≡ Some c
 
 -- the words that a packet takes
 abbrev pub takes : Command → ℕ

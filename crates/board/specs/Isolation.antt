@@ -119,9 +119,9 @@ module _ {S R : Type 0} (m : Ghosts S) (b : Board S m) (n : Ghosts R) (d : Board
   pub record Alike (k : ℕ) (h i : List Act) : Type 0 where
     pub record_same : gate_of (state_of b.table) k ≡ gate_of (state_of d.table) k
     pub answers_same : heard k h ≡ heard k i
-    pub pairs_same : m.step ≡ n.step → shown_of (m.pairs b.stage) k ≡ shown_of (n.pairs d.stage) k
-    pub near_a : Near (max m.step n.step) (shown_of (m.pairs b.stage) k).0 (shown_of (n.pairs d.stage) k).0
-    pub near_b : Near (max m.step n.step) (shown_of (m.pairs b.stage) k).1 (shown_of (n.pairs d.stage) k).1
+    pub pairs_same : m.STEP ≡ n.STEP → shown_of (m.pairs b.stage) k ≡ shown_of (n.pairs d.stage) k
+    pub near_a : Near (max m.STEP n.STEP) (shown_of (m.pairs b.stage) k).0 (shown_of (n.pairs d.stage) k).0
+    pub near_b : Near (max m.STEP n.STEP) (shown_of (m.pairs b.stage) k).1 (shown_of (n.pairs d.stage) k).1
     pub latched : (gate_of (state_of b.table) k).active ≡ (book (own k h)).latched
 
   -- what one gate does and answers hangs on its own list alone, whatever lists of acts the two boards came by

@@ -3,7 +3,6 @@ pub mod Commands
 pub mod Ports
 pub mod Own
 pub mod Acts
-pub mod Fits
 pub mod Runs
 pub mod Isolation
 pub mod Compared

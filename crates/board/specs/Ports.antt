@@ -1,5 +1,5 @@
 -- The port, moved on by what comes in.
-use Rattle.std.specs.Prelude.{ℕ, Some, None, Option}
+use Rattle.std.specs.Prelude.{ℕ, Some, None, Ok, Err, Option, Result}
 use Rattle.board.specs.declared.command.Command.{Command}
 use Rattle.board.specs.declared.port.Incoming.{Incoming}
 use Rattle.board.specs.declared.port.Incoming.TheVariants as incoming
@@ -7,7 +7,9 @@ use Rattle.board.specs.declared.port.Port.{Port}
 use Rattle.board.specs.declared.port.Port.TheVariants.{Idle, TakingWord, TakingHigh, TakingLow, TakingGates, Giving}
 use Rattle.board.specs.declared.port.Step.{Step}
 use Rattle.board.specs.declared.port.Step.TheVariants as step
+use Rattle.board.specs.declared.refusal.Refusal.{Refusal}
 use Rattle.board.specs.declared.refusal.Refusal.TheVariants.{Unknown, PacketOpen, NotTaking, NotGiving}
+use Rattle.board.specs.Commands.{decoded}
 
 -- what waits behind a word that is given
 abbrev pub next_port : Option ℕ → Port
@@ -22,13 +24,13 @@ write_next (TakingLow o high) w = Idle
 write_next TakingGates w = Idle
 write_next (Giving a t) w = Giving a t
 
-abbrev pub write_step : Port → ℕ → Step
-write_step Idle w = step.Refuse NotTaking
-write_step (TakingWord o) w = step.Word o w
-write_step (TakingHigh o) w = step.Wait
-write_step (TakingLow o high) w = step.Long o high w
-write_step TakingGates w = step.Gates w
-write_step (Giving a t) w = step.Refuse NotTaking
+abbrev pub write_step : Port → ℕ → Result Step Refusal
+write_step Idle w = Err NotTaking
+write_step (TakingWord o) w = Ok (step.Word o w)
+write_step (TakingHigh o) w = Ok step.Wait
+write_step (TakingLow o high) w = Ok (step.Long o high w)
+write_step TakingGates w = Ok (step.Gates w)
+write_step (Giving a t) w = Err NotTaking
 
 abbrev pub read_next : Port → Port
 read_next Idle = Idle
@@ -38,32 +40,32 @@ read_next (TakingLow o high) = TakingLow o high
 read_next TakingGates = TakingGates
 read_next (Giving w t) = next_port t
 
-abbrev pub read_step : Port → Step
-read_step Idle = step.Refuse NotGiving
-read_step (TakingWord o) = step.Refuse NotGiving
-read_step (TakingHigh o) = step.Refuse NotGiving
-read_step (TakingLow o high) = step.Refuse NotGiving
-read_step TakingGates = step.Refuse NotGiving
-read_step (Giving w t) = step.Give w
+abbrev pub read_step : Port → Result Step Refusal
+read_step Idle = Err NotGiving
+read_step (TakingWord o) = Err NotGiving
+read_step (TakingHigh o) = Err NotGiving
+read_step (TakingLow o high) = Err NotGiving
+read_step TakingGates = Err NotGiving
+read_step (Giving w t) = Ok (step.Give w)
 
-abbrev pub start_step : Option Command → Step
-start_step (Some c) = step.Start c
-start_step None = step.Refuse Unknown
+abbrev pub start_step : Option Command → Result Step Refusal
+start_step (Some c) = Ok (step.Start c)
+start_step None = Err Unknown
 
-abbrev pub command_step : Port → Option Command → Step
+abbrev pub command_step : Port → Option Command → Result Step Refusal
 command_step Idle c = start_step c
-command_step (TakingWord o) c = step.Refuse PacketOpen
-command_step (TakingHigh o) c = step.Refuse PacketOpen
-command_step (TakingLow o high) c = step.Refuse PacketOpen
-command_step TakingGates c = step.Refuse PacketOpen
-command_step (Giving w t) c = step.Refuse PacketOpen
+command_step (TakingWord o) c = Err PacketOpen
+command_step (TakingHigh o) c = Err PacketOpen
+command_step (TakingLow o high) c = Err PacketOpen
+command_step TakingGates c = Err PacketOpen
+command_step (Giving w t) c = Err PacketOpen
 
 abbrev pub port_next : Port → Incoming → Port
-port_next p (incoming.Command c) = p
+port_next p (incoming.Command b) = p
 port_next p (incoming.Write w) = write_next p w
 port_next p incoming.Read = read_next p
 
-abbrev pub port_step : Port → Incoming → Step
-port_step p (incoming.Command c) = command_step p c
+abbrev pub port_step : Port → Incoming → Result Step Refusal
+port_step p (incoming.Command b) = command_step p (decoded b)
 port_step p (incoming.Write w) = write_step p w
 port_step p incoming.Read = read_step p

@@ -53,11 +53,11 @@ module _ {S : Type 0} (m : Ghosts S) where
   -- the board came to be, from a new one, by the acts of h
   pub record Came (h : List Act) (b : Board S m) : Type 0 where
     pub state : state_of b.table ≡ state_after h
-    pub pairs : m.pairs b.stage ≡ cuts m.step (given_after h)
+    pub pairs : m.pairs b.stage ≡ cuts m.STEP (given_after h)
 
   -- the pairs that are shown after an act
   abbrev pub pairs_after : Board S m → Act → Pairs
-  pairs_after b (act_cycle i j) = cuts m.step (given (state_of b.table) (act_cycle i j) dark)
+  pairs_after b (act_cycle i j) = cuts m.STEP (given (state_of b.table) (act_cycle i j) dark)
   pairs_after b act_reset = dark
   pairs_after b (act_command x) = m.pairs b.stage
   pairs_after b (act_write w) = m.pairs b.stage

@@ -19,9 +19,7 @@ impl Table {
         ensures state { state_of self.new ≡ moved (state_of self.old) (enters_if (whose (state_of self.old) named) (viewed named)) }
         ensures fit { Fit self.new }
     {
-        let Some(gate) = self.whose(named) else {
-            return Err(Refusal::NoCall);
-        };
+        let gate = self.whose(named).ok_or(Refusal::NoCall)?;
         let word = self.status(gate);
         self.current = gate;
         self.port = Port::Giving { word, then: None };
@@ -59,10 +57,9 @@ impl Table {
         ensures state { state_of self.new ≡ after (state_of self.old) (act_command code) }
         ensures fit { Fit self.new }
     {
-        match self.port.step(Incoming::Command(Command::decode(code))) {
+        match self.port.step(Incoming::Command(code))? {
             Step::Start(command) => self.start(command),
-            Step::Refuse(refusal) => Err(refusal),
-            _ => unreachable(),
+            _ => unreachable!(),
         }
     }
 
@@ -88,7 +85,7 @@ impl Table {
         ensures state { state_of self.new ≡ after (state_of self.old) (act_write word) }
         ensures fit { Fit self.new }
     {
-        match self.port.step(Incoming::Write(word)) {
+        match self.port.step(Incoming::Write(word))? {
             Step::Word(order, word) => self.run_word(order, word),
             Step::Wait => Ok(()),
             Step::Long(order, high, low) => self.run_long(order, high, low),
@@ -99,8 +96,7 @@ impl Table {
                 self.multi_update(word);
                 Ok(())
             }
-            Step::Refuse(refusal) => Err(refusal),
-            _ => unreachable(),
+            _ => unreachable!(),
         }
     }
 
@@ -110,10 +106,9 @@ impl Table {
         ensures state { state_of self.new ≡ after (state_of self.old) act_read }
         ensures fit { Fit self.new }
     {
-        match self.port.step(Incoming::Read) {
+        match self.port.step(Incoming::Read)? {
             Step::Give(word) => Ok(word),
-            Step::Refuse(refusal) => Err(refusal),
-            _ => unreachable(),
+            _ => unreachable!(),
         }
     }
 
@@ -123,8 +118,8 @@ impl Table {
         ensures state { state_of self.new ≡ after (state_of self.old) (act_cycle left right) }
         ensures fit { Fit self.new }
     {
-        self.gates[0].turn(left.count, left.positive, left.negative, left.home);
-        self.gates[1].turn(right.count, right.positive, right.negative, right.home);
+        self.gates[0].turn(left);
+        self.gates[1].turn(right);
     }
 
     // The phases that the gates are to show.
@@ -166,13 +161,9 @@ impl Table {
         ensures state { state_of self.new ≡ after (state_of self.old) act_take }
         ensures fit { Fit self.new }
     {
-        match self.lendable() {
-            Some(gate) => {
-                self.gates[gate as usize].lend();
-                Ok(gate)
-            }
-            None => Err(Refusal::NoCall),
-        }
+        let gate = self.lendable().ok_or(Refusal::NoCall)?;
+        self.gates[gate as usize].lend();
+        Ok(gate)
     }
 
     pub fn close(&mut self, gate: u8, word: u16) -> Result<(), Refusal>

@@ -1,5 +1,4 @@
-ghost use Rattle.std.specs.Prelude.{◌≡◌, true};
-ghost use Rattle.board.specs.Fits.{fit_test};
+ghost use Rattle.board.specs.Acts.{Holds, holds_once};
 
 use crate::table::Table;
 use stage::Stage;
@@ -13,5 +12,5 @@ pub mod questions;
 pub struct Board<S: Stage + Drop> {
     table: Table,
     stage: S,
-    ghost fit: { fit_test table ≡ true },
+    ghost fit: { Holds table } by { holds_once table },
 }

@@ -19,15 +19,14 @@ pub enum Port {
 // What comes to the port.
 #[derive(Clone, Copy)]
 pub enum Incoming {
-    Command(Option<Command>),
+    Command(u8),
     Write(u16),
     Read,
 }
 
-// What is to be done about it.
+// What is to be done about it; one type for every act, since the port is one match on its state and the act together.
 #[derive(Clone, Copy)]
 pub enum Step {
-    Refuse(Refusal),
     Start(Command),
     Wait,
     Word(WordOrder, u16),
@@ -37,34 +36,31 @@ pub enum Step {
 }
 
 impl Port {
-    // Moves the port on by what comes in.
-    pub fn step(&mut self, incoming: Incoming) -> Step
+    // Moves the port on by what comes in, or refuses it and stays.
+    pub fn step(&mut self, incoming: Incoming) -> Result<Step, Refusal>
         ensures port { self.new ≡ port_next self.old incoming }
         ensures step { result ≡ port_step self.old incoming }
     {
         match (*self, incoming) {
-            (Port::Idle, Incoming::Command(Some(command))) => Step::Start(command),
-            (Port::Idle, Incoming::Command(None)) => Step::Refuse(Refusal::Unknown),
-            (_, Incoming::Command(_)) => Step::Refuse(Refusal::PacketOpen),
+            (Port::Idle, Incoming::Command(code)) => Ok(Step::Start(Command::try_from(code)?)),
+            (_, Incoming::Command(_)) => Err(Refusal::PacketOpen),
             (Port::TakingWord { order }, Incoming::Write(word)) => {
                 *self = Port::Idle;
-                Step::Word(order, word)
+                Ok(Step::Word(order, word))
             }
             (Port::TakingHigh { order }, Incoming::Write(high)) => {
                 *self = Port::TakingLow { order, high };
-                Step::Wait
+                Ok(Step::Wait)
             }
             (Port::TakingLow { order, high }, Incoming::Write(low)) => {
                 *self = Port::Idle;
-                Step::Long(order, high, low)
+                Ok(Step::Long(order, high, low))
             }
             (Port::TakingGates, Incoming::Write(word)) => {
                 *self = Port::Idle;
-                Step::Gates(word)
+                Ok(Step::Gates(word))
             }
-            (Port::Idle | Port::Giving { .. }, Incoming::Write(_)) => {
-                Step::Refuse(Refusal::NotTaking)
-            }
+            (Port::Idle | Port::Giving { .. }, Incoming::Write(_)) => Err(Refusal::NotTaking),
             (Port::Giving { word, then }, Incoming::Read) => {
                 *self = match then {
                     Some(next) => Port::Giving {
@@ -73,9 +69,9 @@ impl Port {
                     },
                     None => Port::Idle,
                 };
-                Step::Give(word)
+                Ok(Step::Give(word))
             }
-            (_, Incoming::Read) => Step::Refuse(Refusal::NotGiving),
+            (_, Incoming::Read) => Err(Refusal::NotGiving),
         }
     }
 }

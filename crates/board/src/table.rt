@@ -1,31 +1,23 @@
-ghost use Rattle.std.specs.Prelude.{◌≡◌, ◌<◌, IfSome};
+ghost use Rattle.std.specs.Prelude.{◌≡◌, ◌<◌, Bool, cond, Some, None, IfSome};
+ghost use Rattle.std.specs.Fn.{FnReturnsAt};
 ghost use Rattle.gate.specs.Queries.{answered, status_word};
 ghost use Rattle.board.specs.Own.{joined, told, told_word, told_long};
-ghost use Rattle.board.specs.Acts.{state_of, gate_of, caller, lendable, whose, enters, moved, says, heard_done, heard_range, Fit};
+ghost use Rattle.board.specs.Acts.{state_of, gate_of, caller, lendable, whose, enters, moved, says, heard_done, Fit};
 
 use crate::command::Whose;
 use crate::port::Port;
 use crate::refusal::Refusal;
 use gate::gate::Gate;
-use gate::orders::{LongOrder, Order, OutOfRange, WordOrder};
+use gate::orders::{LongOrder, Order, WordOrder};
 use gate::queries::Query;
 
-// What a board holds beside its stage. The gates are numbered from 0 here.
+// What a board holds beside its stage. The gates are numbered from 0 here, as in an index and in a status word. The table is plain, so that
+// one record can be lent and changed: a board's type carries the ranges, and here `Fit` stands in each contract.
 #[derive(Clone, Copy)]
 pub struct Table {
     pub gates: [Gate; 2],
     pub current: u8,
     pub port: Port,
-}
-
-// A gate's refusal, by its number.
-fn numbered(res: Result<(), OutOfRange>) -> Result<(), Refusal>
-    ensures { heard_done result ≡ heard_range res }
-{
-    match res {
-        Ok(()) => Ok(()),
-        Err(_) => Err(Refusal::OutOfRange),
-    }
 }
 
 // A number of two words, the high one first.
@@ -36,30 +28,33 @@ fn join(high: u16, low: u16) -> u32
 }
 
 impl Table {
-    fn caller(&self) -> Option<u8>
-        ensures is { result ≡ caller (state_of self.now) }
-        ensures bound { IfSome result (λ k. k < 2) }
+    // The lowest-numbered gate that passes a test.
+    fn first<F: Fn(&Gate) -> bool>(&self, test: F) -> Option<u8>
+        requires { F.IsAlwaysCallable test }
+        ensures is { (a : Bool) × (b : Bool) × FnReturnsAt F.Fn test (state_of self.now).one a × FnReturnsAt F.Fn test (state_of self.now).two b × (result ≡ cond a (Some 0) (cond b (Some 1) None)) }
     {
-        if self.gates[0].calls() {
+        let (one, two) = (test(&self.gates[0]), test(&self.gates[1]));
+        if one {
             Some(0)
-        } else if self.gates[1].calls() {
+        } else if two {
             Some(1)
         } else {
             None
         }
     }
 
+    fn caller(&self) -> Option<u8>
+        ensures is { result ≡ caller (state_of self.now) }
+        ensures bound { IfSome result (λ k. k < 2) }
+    {
+        self.first(|gate| gate.calls())
+    }
+
     pub(crate) fn lendable(&self) -> Option<u8>
         ensures is { result ≡ lendable (state_of self.now) }
         ensures bound { IfSome result (λ k. k < 2) }
     {
-        if self.gates[0].calls() && !self.gates[0].slip {
-            Some(0)
-        } else if self.gates[1].calls() && !self.gates[1].slip {
-            Some(1)
-        } else {
-            None
-        }
+        self.first(|gate| gate.calls() && !gate.slip)
     }
 
     pub(crate) fn whose(&self, named: Whose) -> Option<u8>
@@ -107,7 +102,9 @@ impl Table {
         ensures fit { Fit self.new }
     {
         self.port = Port::Idle;
-        numbered(self.gates[self.current as usize].run_word(order, word))
+        self.gates[self.current as usize]
+            .run_word(order, word)
+            .map_err(Refusal::from)
     }
 
     pub(crate) fn run_long(&mut self, order: LongOrder, high: u16, low: u16) -> Result<(), Refusal>
@@ -118,6 +115,8 @@ impl Table {
     {
         self.port = Port::Idle;
         let value = join(high, low);
-        numbered(self.gates[self.current as usize].run_long(order, value))
+        self.gates[self.current as usize]
+            .run_long(order, value)
+            .map_err(Refusal::from)
     }
 }

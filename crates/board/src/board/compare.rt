@@ -8,8 +8,8 @@ use crate::board::Board;
 use crate::table::Table;
 use stage::Stage;
 
-// How far one gate is alike on two boards.
-#[derive(Clone, Copy)]
+// How far one gate is alike on two boards; both parts always hold.
+#[derive(Clone, Copy, PartialEq, Eq, Debug)]
 pub struct Comparison {
     // whether its records are equal
     pub same: bool,
@@ -46,19 +46,6 @@ fn compared<S: Stage + Drop, R: Stage + Drop>(
     }
 }
 
-fn of_gate<S: Stage + Drop, R: Stage + Drop>(
-    left: &Board<S>,
-    right: &Board<R>,
-    gate: u8,
-) -> Option<Comparison>
-    ensures { MatchOption result (is_gate gate ≡ false) (λ c. (is_gate gate ≡ true) × Compared S.Stage left.now R.Stage right.now (gate - 1) c) }
-{
-    match gate {
-        1 | 2 => Some(compared(left, right, gate)),
-        _ => None,
-    }
-}
-
 // Compares gate 1 or 2 on two boards, over any makes of stage. Its contract carries the isolation law.
 pub fn compare<S: Stage + Drop, R: Stage + Drop>(
     left: &Board<S>,
@@ -70,5 +57,5 @@ pub fn compare<S: Stage + Drop, R: Stage + Drop>(
     ensures booked { Booked S.Stage left.now }
     ensures other { Booked R.Stage right.now }
 {
-    of_gate(left, right, gate)
+    matches!(gate, 1 | 2).then(|| compared(left, right, gate))
 }

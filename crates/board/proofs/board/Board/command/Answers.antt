@@ -1,13 +1,6 @@
 use Rattle.std.proofs.Common.{refl}
-use Rattle.board.proofs.Fitting.{fit_from, fit_to}
 use Rattle.board.proofs.Owed.{did}
 use Rattle.board.proofs.board.Board.command.Goals as goal
-
-pub command-requires : goal.command-requires
-command-requires g c = fit_from c.args.self.now.table c.args.self.now.fit
-
-pub invariant_of-self : goal.invariant_of-self
-invariant_of-self g c = record { fit = fit_to c.command.new.self c.command.ensures.fit }
 
 pub returns : goal.returns
 returns g c = did _ _ _ _ _ c.command.ensures.answer c.command.ensures.state refl

@@ -3,15 +3,8 @@ use Rattle.std.proofs.lemmas.Int.{to_z-of_z}
 use Rattle.stage.specs.Pairs.{dark}
 use Rattle.board.specs.Acts.{state_of, act_cycle, after}
 use Rattle.board.specs.Runs.{given}
-use Rattle.board.proofs.Fitting.{fit_from, fit_to}
 use Rattle.board.proofs.Owed.{did, shown_both, shown_cycle}
 use Rattle.board.proofs.board.Board.cycle.Goals as goal
-
-pub cycle-requires : goal.cycle-requires
-cycle-requires g c = fit_from c.args.self.now.table c.args.self.now.fit
-
-pub invariant_of-self : goal.invariant_of-self
-invariant_of-self g c = record { fit = fit_to c.cycle.new.self c.cycle.ensures.fit }
 
 pub returns : goal.returns
 returns g c =
@@ -24,6 +17,6 @@ returns g c =
     let i : SFits w32 r.1.0 = search rules in
     let j : SFits w32 r.1.1 = search rules in
     let pairs =
-    shown_both g.S.Stage.step (g.S.Stage.pairs c.args.self.now.stage) _ _ (given s a dark) _ _ _ _ c.show.ensures c.show-2.ensures
+    shown_both g.S.Stage.STEP (g.S.Stage.pairs c.args.self.now.stage) _ _ (given s a dark) _ _ _ _ c.show.ensures c.show-2.ensures
     (to_z-of_z w32 r.0.0 f ∙ x.0) (to_z-of_z w32 r.0.1 h ∙ x.1) (to_z-of_z w32 r.1.0 i ∙ x.2) (to_z-of_z w32 r.1.1 j ∙ x.3) in
     did _ _ _ _ _ refl c.cycle.ensures.state pairs

@@ -13,8 +13,7 @@ returns c =
     let e = told_long o c.args.high c.args.low in
     record {
       answer =
-          c.numbered.ensures
-          ∙ (ap heard_range (c.run_long.ensures.answer ∙ ap (long_answer o) v) ∙ heard_answer (long_fits o (joined c.args.high c.args.low)));
+          (search rules) ∙ (ap heard_range (c.run_long.ensures.answer ∙ ap (long_answer o) v) ∙ heard_answer (long_fits o (joined c.args.high c.args.low)));
       state =
           entered t _ t.current e c.run_long.new.self (search rules) c.requires.current refl
           (c.run_long.ensures.is ∙ ap (λ n. ran_long o n (get_or t.gates t.current blank)) v) refl refl;

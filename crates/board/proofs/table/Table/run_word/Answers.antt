@@ -10,7 +10,7 @@ returns c =
     let t = c.args.self.now in
     let e = told_word c.args.order c.args.word in
     record {
-      answer = c.numbered.ensures ∙ (ap heard_range c.run_word.ensures.answer ∙ heard_answer (word_fits c.args.order c.args.word));
+      answer = (search rules) ∙ (ap heard_range c.run_word.ensures.answer ∙ heard_answer (word_fits c.args.order c.args.word));
       state = entered t _ t.current e c.run_word.new.self (search rules) c.requires.current refl c.run_word.ensures.is refl refl;
       fit = fit_set t _ t.current c.run_word.new.self c.requires (c.run_word.ensures.sound (sound_at t t.current c.requires.current c.requires)) refl c.requires.current;
     }

@@ -1,15 +1,15 @@
-use Rattle.std.proofs.Common.{set, refl, rules}
+use Rattle.std.proofs.Common.{◌<◌, set, sym, refl, ◌∙◌, rules}
 use Rattle.board.specs.declared.table.Table.{Table}
 use Rattle.board.specs.Own.{taken}
 use Rattle.board.proofs.Tables.{sound_at, fit_set, entered, take_answer, take_state}
 use Rattle.board.proofs.table.Table.take.Goals as goal
 
-pub returns-in-Some : goal.returns-in-Some
-returns-in-Some c =
+pub returns : goal.returns
+returns c =
     let t = c.args.self.now in
-    let k = c.in-Some.gate in
-    let e = c.in-Some.ensures.is in
-    let h = c.in-Some.ensures.bound in
+    let k = c.in_ok-gate.gate in
+    let e = sym (c.in_ok-gate.ensures.ok_part) ∙ c.lendable.ensures.is in
+    let h : k < 2 = search rules in
     let u : Table = record { gates = set t.gates k c.lend.new.self; current = t.current; port = t.port } in
     record {
       answer = take_answer t k e;

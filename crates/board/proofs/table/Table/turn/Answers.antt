@@ -1,9 +1,5 @@
-use Rattle.std.proofs.Common.{get_or, set, refl, ap, ◌∙◌, rules}
-use Rattle.gate.specs.declared.inputs.Inputs.{Inputs}
-use Rattle.gate.specs.Cycles.{cycled}
-use Rattle.gate.proofs.Steps.{brought_is}
+use Rattle.std.proofs.Common.{set, refl, rules}
 use Rattle.board.specs.declared.table.Table.{Table}
-use Rattle.board.specs.Acts.{blank}
 use Rattle.board.proofs.Tables.{set_sound, both_cycled, both_fit}
 use Rattle.board.proofs.table.Table.turn.Goals as goal
 
@@ -16,9 +12,7 @@ returns c =
     let x = c.turn.new.self in
     let y = c.turn-2.new.self in
     let u : Table = record { gates = set (set t.gates 0 x) 1 y; current = t.current; port = t.port } in
-    let left = ap (λ (i : Inputs). cycled i (get_or t.gates 0 blank)) (brought_is c.args.left (search rules)) in
-    let right = ap (λ (i : Inputs). cycled i (get_or (set t.gates 0 x) 1 blank)) (brought_is c.args.right (search rules)) in
     record {
-      state = both_cycled t u c.args.left c.args.right x y (search rules) refl refl refl (c.turn.ensures.is ∙ left) (c.turn-2.ensures.is ∙ right);
+      state = both_cycled t u c.args.left c.args.right x y (search rules) refl refl refl c.turn.ensures.is c.turn-2.ensures.is;
       fit = both_fit t u c.args.left c.args.right x y (search rules) refl c.requires c.requires.current c.turn.ensures.sound c.turn-2.ensures.sound;
     }
