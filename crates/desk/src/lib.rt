@@ -2,3 +2,4 @@
 #![tactic(auto)]
 
 pub mod desk;
+pub mod side;

@@ -16,13 +16,6 @@ mod tests {
     use stage::pwm::Pwm;
     use std::test::Fail;
 
-    const STILL: Inputs = Inputs {
-        count: 0,
-        positive: false,
-        negative: false,
-        home: false,
-    };
-
     fn order<S: Stage + Drop>(board: &mut Board<S>, code: u8) -> Result<(), Refusal> {
         board.command(code)
     }
@@ -80,7 +73,7 @@ mod tests {
         assert!(rt; long(&mut left, 0x10, 0, 900).is_ok());
         for _ in 0..4 {
             left.cycle(
-                STILL,
+                Inputs::STILL,
                 Inputs {
                     count: 5,
                     positive: true,
@@ -88,11 +81,9 @@ mod tests {
                     home: true,
                 },
             );
-            right.cycle(STILL, STILL);
+            right.cycle(Inputs::STILL, Inputs::STILL);
         }
-        let Some(found) = compare(&left, &right, 1) else {
-            return Err(Fail::new("gate 1 is a gate"));
-        };
+        let found = compare(&left, &right, 1).ok_or("gate 1 is a gate")?;
         assert!(rt; found.same);
         assert!(rt; found.apart.0 < 128 && found.apart.1 < 128);
         assert!(rt; compare(&left, &right, 3).is_none());

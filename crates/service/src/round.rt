@@ -7,14 +7,10 @@ use stage::Stage;
 pub fn serve<S: Stage + Drop>(board: &mut Board<S>, word: u16) -> Option<u8>
     ensures { Served S.Stage word board.old board.new result }
 {
-    let slip = match board.take() {
-        Ok(slip) => slip,
-        Err(_) => return None,
+    let Ok(slip) = board.take() else {
+        return None;
     };
     let gate = slip.gate();
-    let closed = board.close(slip, word);
-    match closed {
-        Ok(()) => Some(gate),
-        Err(_) => unreachable(),
-    }
+    board.close(slip, word).unwrap();
+    Some(gate)
 }

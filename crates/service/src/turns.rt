@@ -14,7 +14,8 @@ pub enum Served {
     Both,
 }
 
-// Takes a slip into an empty hand; answers whether there was one to take.
+// Takes a slip into an empty hand; answers whether there was one to take. The hand is an `Option`, and the answer a flag beside it, so that
+// a second close of one slip compiles, and is left to the prover to refuse.
 fn pick<S: Stage + Drop>(board: &mut Board<S>, hand: &mut Option<Slip>) -> bool
     requires { hand.old ≡ None }
     ensures held { result ≡ is_some hand.new }
@@ -23,13 +24,11 @@ fn pick<S: Stage + Drop>(board: &mut Board<S>, hand: &mut Option<Slip>) -> bool
     ensures shows { S.Stage.pairs board.new.stage ≡ S.Stage.pairs board.old.stage }
     ensures none { result ≡ false → lendable (state_of board.old.table) ≡ None }
 {
-    match board.take() {
-        Ok(slip) => match hand.replace(slip) {
-            None => true,
-            Some(_) => unreachable(),
-        },
-        Err(_) => false,
-    }
+    let Ok(slip) = board.take() else {
+        return false;
+    };
+    *hand = Some(slip);
+    true
 }
 
 // Closes the slip in the hand.
@@ -40,10 +39,7 @@ fn put<S: Stage + Drop>(board: &mut Board<S>, hand: &mut Option<Slip>, word: u16
     ensures put { Put S.Stage word hand.old board.old board.new }
 {
     let slip = hand.take().unwrap();
-    match board.close(slip, word) {
-        Ok(()) => {}
-        Err(_) => unreachable(),
-    }
+    board.close(slip, word).unwrap();
 }
 
 // Serves two calls, one slip after the other, each with a word of its own.

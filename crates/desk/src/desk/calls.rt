@@ -2,6 +2,7 @@ ghost use Rattle.std.specs.Prelude.{◌≡◌, []};
 ghost use Rattle.board.specs.Own.{done};
 ghost use Rattle.board.specs.Acts.{heard_done, heard_word, act_command, act_write, act_read, act_cycle, act_reset};
 ghost use Rattle.board.specs.Runs.{Came, Did};
+ghost use Rattle.desk.specs.Runs.{Ran};
 
 use crate::desk::Desk;
 use board::board::Board;
@@ -50,6 +51,15 @@ impl<S: Stage + Drop> Desk<S> {
         ensures { Did S.Stage (act_cycle left right) done self.old.board self.new.board }
     {
         self.board.cycle(left, right);
+    }
+
+    // So many cycles in which no gate's encoder counts and no switch is active.
+    pub fn run(&mut self, cycles: u32)
+        ensures { Ran S.Stage cycles self.old.board self.new.board }
+    {
+        for _turn in 0..cycles {
+            self.cycle(Inputs::STILL, Inputs::STILL);
+        }
     }
 
     pub fn reset(&mut self)

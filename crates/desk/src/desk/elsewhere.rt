@@ -17,16 +17,13 @@ fn close_at<R: Stage + Drop>(
 ) -> Option<Result<(), Refusal>>
     ensures { Moved R.Stage word result board.old board.new mine.old mine.new theirs.old theirs.new }
 {
-    let Some(slip) = mine.take() else {
-        return None;
-    };
+    let slip = mine.take()?;
     match board.close(slip, word) {
         Ok(()) => {
             std::mem::swap(mine, theirs);
             Some(Ok(()))
         }
-        Err(back) => {
-            let (refusal, slip) = back;
+        Err((refusal, slip)) => {
             put(mine, slip);
             Some(Err(refusal))
         }

@@ -14,15 +14,12 @@ use stage::Stage;
 // A word for a close that clears no event bit.
 pub const CLEARS_NOTHING: u16 = 0xffff;
 
-// Puts a slip where none is kept.
+// Puts a slip where none is kept, so that none is let go.
 pub(crate) fn put(place: &mut Option<Slip>, slip: Slip)
     requires { place.old ≡ None }
     ensures { place.new ≡ Some slip }
 {
-    match place.replace(slip) {
-        None => {}
-        Some(_) => unreachable(),
-    }
+    *place = Some(slip);
 }
 
 // Closes a slip at a board where its gate's slip is out.
@@ -30,10 +27,7 @@ fn close_out<S: Stage + Drop>(board: &mut Board<S>, slip: Slip, word: u16)
     requires { (gate_of (state_of board.old.table) slip.gate).slip ≡ true }
     ensures { Did S.Stage (act_close slip.gate word) done board.old board.new }
 {
-    match board.close(slip, word) {
-        Ok(()) => {}
-        Err(_) => unreachable(),
-    }
+    board.close(slip, word).unwrap();
 }
 
 impl<S: Stage + Drop> Desk<S> {
@@ -52,7 +46,8 @@ impl<S: Stage + Drop> Desk<S> {
         Ok(gate)
     }
 
-    // Closes the slip that is kept for a gate, 1 or 2; answers whether there was one.
+    // Closes the slip that is kept for a gate, 1 or 2; answers whether there was one. Gate and word come apart, as slip and word do at a
+    // board's close.
     pub fn close(&mut self, gate: u8, word: u16) -> bool
         ensures { Closed S.Stage gate word result self.old.board self.new.board }
     {
@@ -61,13 +56,11 @@ impl<S: Stage + Drop> Desk<S> {
             2 => self.second.take(),
             _ => None,
         };
-        match kept {
-            Some(slip) => {
-                close_out(&mut self.board, slip, word);
-                true
-            }
-            None => false,
-        }
+        let Some(slip) = kept else {
+            return false;
+        };
+        close_out(&mut self.board, slip, word);
+        true
     }
 
     // Closes every slip that is still kept, with a word that clears nothing, and gives the board.

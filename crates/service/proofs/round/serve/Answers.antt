@@ -1,20 +1,30 @@
 use Rattle.board.proofs.Slips.{closes, taken_gate, taken_none}
 use Rattle.board.specs.Acts.{act_take, state_of}
 use Rattle.service.proofs.round.serve.Goals as goal
-use Rattle.std.proofs.Common.{◌∷◌}
+use Rattle.std.proofs.Common.{◌≡◌, true, ◌∷◌, Ok, Err, Result, is_ok, refl}
+use Rattle.board.specs.declared.refusal.Refusal.{Refusal}
+use Rattle.board.specs.declared.slip.Slip.{Slip}
+use Rattle.board.specs.Own.{Answer, refused}
+use Rattle.board.specs.Runs.{heard_back}
 
-pub unreachable-requires : goal.unreachable-requires
-unreachable-requires g c =
-    closes (state_of c.args.board.now.table) (state_of c.take.new.self.table) c.in-Ok.slip.gate c.args.word c.in-Err-closed.field-0.0
-    c.in-Ok.slip.known c.in-Ok.ensures.did.says c.take.ensures.did.state c.in-Err-closed.ensures.did.says
+-- a close that is not refused is accepted
+accepted : (r : Result (Unit {0}) (Refusal × Slip)) (x : Answer) → heard_back r ≡ x → ((e : Refusal) → refused e ≡ x → ⊥) → is_ok r ≡ true
+accepted (Ok u) x h kept = refl
+accepted (Err p) x h kept = absurd (kept p.0 h)
 
-pub returns-in-Err : goal.returns-in-Err
-returns-in-Err g c = (taken_none (state_of c.args.board.now.table) c.in-Err.field-0 c.in-Err.ensures.did.says, c.take.ensures.did.came)
+pub unwrap-requires : goal.unwrap-requires
+unwrap-requires g c =
+    accepted c.close.result _ c.close.ensures.did.says
+    (λ e. closes (state_of c.args.board.now.table) (state_of c.take.new.self.table) c.in-Ok.slip.gate c.args.word e
+    c.in-Ok.slip.known c.in-Ok.ensures.did.says c.take.ensures.did.state)
+
+pub returns-in_default : goal.returns-in_default
+returns-in_default g c = (taken_none (state_of c.args.board.now.table) c.in_default.field-0 c.in_default.ensures.did.says, c.take.ensures.did.came)
 
 pub returns : goal.returns
 returns g c = (
   c.in-Ok.slip.gate,
   c.gate-gate.ensures,
   taken_gate (state_of c.args.board.now.table) c.in-Ok.slip.gate c.in-Ok.ensures.did.says,
-  λ h came. c.close-closed.ensures.did.came (act_take ∷ h) (c.take.ensures.did.came h came),
+  λ h came. c.close.ensures.did.came (act_take ∷ h) (c.take.ensures.did.came h came),
 )

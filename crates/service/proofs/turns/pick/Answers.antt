@@ -1,27 +1,24 @@
-use Rattle.std.proofs.Common.{is_some, Option, sym, ap, subst}
+use Rattle.std.proofs.Common.{is_some, Option, sym, refl, ap, subst}
 use Rattle.board.specs.declared.slip.Slip.{Slip}
 use Rattle.board.specs.Acts.{state_of}
 use Rattle.board.proofs.Slips.{taken_none, taken_out}
 use Rattle.service.specs.Turns.{InHand, Picked}
 use Rattle.service.proofs.turns.pick.Goals as goal
 
-pub returns-in-None : goal.returns-in-None
-returns-in-None g c =
+pub returns : goal.returns
+returns g c =
     let s = state_of c.args.board.now.table in
     let k = c.in-Ok.slip in
-    let e = sym c.replace.ensures.after in
-    let held : Option Slip → Type 0 = InHand c.take.new.self in
-    let picked : Option Slip → Type 0 = λ o. Picked g.S.Stage o c.args.board.now c.take.new.self in
     record {
-      held = ap is_some e;
-      out = subst held e (taken_out s (state_of c.take.new.self.table) k.gate k.known c.in-Ok.ensures.did.says c.take.ensures.did.state);
-      picked = subst picked e c.in-Ok.ensures.did;
+      held = refl;
+      out = taken_out s (state_of c.take.new.self.table) k.gate k.known c.in-Ok.ensures.did.says c.take.ensures.did.state;
+      picked = c.in-Ok.ensures.did;
       shows = c.take.ensures.did.pairs;
       none = λ no. cc;
     }
 
-pub returns-in-Err : goal.returns-in-Err
-returns-in-Err g c =
+pub returns-in_default : goal.returns-in_default
+returns-in_default g c =
     let s = state_of c.args.board.now.table in
     let e = sym c.requires in
     let held : Option Slip → Type 0 = InHand c.take.new.self in
@@ -29,7 +26,7 @@ returns-in-Err g c =
     record {
       held = ap is_some e;
       out = subst held e tt;
-      picked = subst picked e (c.in-Err.field-0, c.in-Err.ensures.did);
+      picked = subst picked e (c.in_default.field-0, c.in_default.ensures.did);
       shows = c.take.ensures.did.pairs;
-      none = λ no. taken_none s c.in-Err.field-0 c.in-Err.ensures.did.says;
+      none = λ no. taken_none s c.in_default.field-0 c.in_default.ensures.did.says;
     }
