@@ -3,13 +3,10 @@ use Rattle.std.specs.Prelude.{◌≡◌, ℕ, ◌<◌, Bool, true, false, ◌⊎
 use Rattle.gate.specs.declared.inputs.Inputs.{Inputs}
 use Rattle.board.specs.declared.command.Command.{Command}
 use Rattle.board.specs.Commands.{code_table}
-use Rattle.script.specs.declared.line.Side.{Side}
-use Rattle.script.specs.declared.line.Side.TheVariants.{A, B}
+use Rattle.desk.specs.declared.side.Side.{Side}
+use Rattle.desk.specs.declared.side.Side.TheVariants.{A, B}
 use Rattle.script.specs.Mnemonics.{mnemonic}
 use Rattle.script.specs.Numbers.{Number, Bits}
-
-abbrev pub Words : Type 0
-Words = List (List ℕ)
 
 -- a text is a number of 16 bits, or of 32, signed or not
 abbrev pub IsWord : List ℕ → ℕ → Type 0

@@ -1,5 +1,5 @@
 -- Packets as a host sends them: act after act, up to the end or to the first refusal.
-use Rattle.std.specs.Prelude.{◌≡◌, ℕ, ◌+◌, ◌*◌, Bool, true, false, ◌⊎◌, List, [], ◌∷◌, map, Ok, Err, Result}
+use Rattle.std.specs.Prelude.{◌≡◌, ℕ, Bool, true, false, ◌⊎◌, List, [], ◌∷◌, length, map, replicate, Ok, Err, Result}
 use Rattle.stage.specs.declared.Stage.{Ghosts}
 use Rattle.board.specs.declared.board.Board.{Board}
 use Rattle.board.specs.declared.refusal.Refusal.{Refusal}
@@ -27,16 +27,12 @@ module _ {S : Type 0} (m : Ghosts S) where
   Stopped [] e b d = ⊥
   Stopped (a ∷ acts) e b d = Did m a (refused e) b d ⊎ ((c : Board S m) × (x : Answer) × (accepted x ≡ true) × Did m a x b c × Stopped acts e c d)
 
-  abbrev pub Sent : List Act → Result (Unit {0}) Refusal → Board S m → Board S m → Type 0
+  -- acts that give nothing
+  abbrev pub Sent : {T : Type 0} → List Act → Result T Refusal → Board S m → Board S m → Type 0
   Sent acts (Ok _) b d = Through acts (map (λ _. done) acts) b d
   Sent acts (Err e) b d = Stopped acts e b d
 
-  -- a word that a read command gives
-  abbrev pub FetchedWord : ℕ → Result ℕ Refusal → Board S m → Board S m → Type 0
-  FetchedWord code (Ok w) b d = Through (act_command code ∷ (act_read ∷ [])) (done ∷ (gave w ∷ [])) b d
-  FetchedWord code (Err e) b d = Stopped (act_command code ∷ (act_read ∷ [])) e b d
-
-  -- a number of two words that a read command gives, the high one first
-  abbrev pub FetchedLong : ℕ → Result ℕ Refusal → Board S m → Board S m → Type 0
-  FetchedLong code (Ok n) b d = (high : ℕ) × (low : ℕ) × (n ≡ high * 65536 + low) × Through (act_command code ∷ (act_read ∷ (act_read ∷ []))) (done ∷ (gave high ∷ (gave low ∷ []))) b d
-  FetchedLong code (Err e) b d = Stopped (act_command code ∷ (act_read ∷ (act_read ∷ []))) e b d
+  -- so many words that a read command gives
+  abbrev pub Fetched : ℕ → ℕ → Result (List ℕ) Refusal → Board S m → Board S m → Type 0
+  Fetched n code (Ok words) b d = (length words ≡ n) × Through (act_command code ∷ replicate n act_read) (done ∷ map gave words) b d
+  Fetched n code (Err e) b d = Stopped (act_command code ∷ replicate n act_read) e b d

@@ -1,12 +1,14 @@
 ghost use Rattle.std.specs.Prelude.{◌≡◌, []};
 ghost use Rattle.board.specs.Runs.{Came};
-ghost use Rattle.script.specs.declared.line.Side.TheVariants.{A as First};
+ghost use Rattle.desk.specs.declared.side.Side.TheVariants.{A as First};
 ghost use Rattle.script.specs.Sides.{PlayedAt, Went};
 
-use crate::line::{Line, Side};
+use crate::line::Line;
 use crate::play::play;
 use crate::reply::Reply;
+use board::refusal::Refusal;
 use desk::desk::Desk;
+use desk::side::Side;
 use stage::Stage;
 
 // The two boards of a console, and the one that lines go to.
@@ -31,7 +33,7 @@ impl<S: Stage + Drop, R: Stage + Drop> Boards<S, R> {
     }
 
     // Plays a line on the current board.
-    fn play_here(&mut self, line: Line) -> Option<Reply>
+    fn play_here(&mut self, line: Line) -> Result<Option<Reply>, Refusal>
         ensures { PlayedAt S.Stage R.Stage self.old.current line result self.old self.new }
     {
         match self.current {
@@ -41,13 +43,13 @@ impl<S: Stage + Drop, R: Stage + Drop> Boards<S, R> {
     }
 
     // Plays a line on the board that it goes to.
-    pub fn play(&mut self, line: Line) -> Option<Reply>
+    pub fn play(&mut self, line: Line) -> Result<Option<Reply>, Refusal>
         ensures { Went S.Stage R.Stage line result self.old self.new }
     {
         match line {
             Line::Board(side) => {
                 self.current = side;
-                None
+                Ok(None)
             }
             _ => self.play_here(line),
         }

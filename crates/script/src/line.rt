@@ -1,22 +1,16 @@
-ghost use Rattle.std.specs.Prelude.{◌<◌, IfSome, Some};
+ghost use Rattle.std.specs.Prelude.{◌≡◌, ◌<◌, IfSome, Some, Ok, ℤ};
 ghost use Rattle.script.specs.Numbers.{Number};
-ghost use Rattle.script.specs.Lines.{IsWord, IsCode, Holds, IsInputs, gate_name};
+ghost use Rattle.script.specs.Lines.{IsWord, IsLong, IsCode, Holds, IsInputs, side_name, gate_name};
 
 use crate::fault::Expected;
-use crate::mnemonic::{code_of, named};
-use crate::number::{long_of, number, word_of};
+use crate::mnemonic::named;
+use crate::number::{LONG, WORD, bits_of, number};
 use board::command::Command;
+use desk::side::Side;
 use gate::inputs::Inputs;
 
-// The two boards of a console.
-#[derive(Clone, Copy, Debug, PartialEq, Eq)]
-pub enum Side {
-    A,
-    B,
-}
-
 // What a line of a script asks for.
-#[derive(Clone, Copy)]
+#[derive(Clone, Copy, PartialEq, Eq, Debug)]
 pub enum Line {
     Nothing,
     Board(Side),
@@ -33,129 +27,52 @@ pub enum Line {
 }
 
 // The whole packet of a command, with the value that it takes.
-#[derive(Clone, Copy)]
+#[derive(Clone, Copy, PartialEq, Eq, Debug)]
 pub enum Packet {
     Plain(Command),
     Word(Command, u16),
     Long(Command, u32),
 }
 
-// No count comes, and no switch is active.
-pub const STILL: Inputs = Inputs {
-    count: 0,
-    positive: false,
-    negative: false,
-    home: false,
-};
-
-fn board_line(words: &[&str]) -> Result<Line, Expected> {
-    match words {
-        [word] => match *word {
-            "a" => Ok(Line::Board(Side::A)),
-            "b" => Ok(Line::Board(Side::B)),
-            _ => Err(Expected::Board),
-        },
-        _ => Err(Expected::Board),
-    }
-}
-
-fn code(word: &str) -> Option<u8>
-    ensures { IfSome result (IsCode word.now) }
+fn side(text: &str) -> Option<Side>
+    ensures { IfSome result (λ s. text.now ≡ side_name s) }
 {
-    match named(word) {
-        Some(command) => Some(code_of(command)),
-        None => u8::try_from(number(word)?).ok(),
+    match text {
+        "a" => Some(Side::A),
+        "b" => Some(Side::B),
+        _ => None,
     }
 }
 
-fn command_line(words: &[&str]) -> Result<Line, Expected> {
-    match words {
-        [word] => Ok(Line::Command(code(*word).ok_or(Expected::Command)?)),
-        _ => Err(Expected::Command),
+fn code(text: &str) -> Option<u8>
+    ensures { IfSome result (IsCode text.now) }
+{
+    match named(text) {
+        Some(command) => Some(u8::from(command)),
+        None => fitting(text),
     }
 }
 
+// The bits of a number of one word, and below of two: one function for both would name a constant and a type at each call.
 fn word(text: &str) -> Option<u16>
     ensures { IfSome result (IsWord text.now) }
 {
-    word_of(number(text)?)
+    u16::try_from(bits_of::<WORD>(number(text)?)?).ok()
 }
 
-fn write_line(words: &[&str]) -> Result<Line, Expected> {
-    match words {
-        [text] => Ok(Line::Write(word(*text).ok_or(Expected::Word)?)),
-        _ => Err(Expected::Word),
-    }
-}
-
-fn bare_line(words: &[&str], line: Line) -> Result<Line, Expected> {
-    match words {
-        [] => Ok(line),
-        _ => Err(Expected::Alone),
-    }
-}
-
-// Whether a letter stands in a text.
-fn holds(text: &str, letter: char) -> bool
-    requires { letter < 128 }
-    ensures { Holds text.now letter result }
+fn long(text: &str) -> Option<u32>
+    ensures { IfSome result (IsLong text.now) }
 {
-    text.contains(letter)
+    u32::try_from(bits_of::<LONG>(number(text)?)?).ok()
 }
 
-// Whether the letters are among those of the switches.
-fn are_switches(letters: &str) -> bool {
-    for letter in letters.bytes() {
-        if letter != b'p' && letter != b'n' && letter != b'h' {
-            return false;
-        }
-    }
-    true
-}
-
-fn count_of(text: &str) -> Option<i16>
-    ensures { IfSome result (λ n. Number text.now (Some n)) }
+// The number that a text writes, where it fits its type.
+fn fitting<N: TryFrom<i64>>(text: &str) -> Option<N>
+where
+    N::Error: Drop,
+    ensures { IfSome result (λ n. (z : ℤ) × Number text.now (Some z) × N.try_from_gives z (Ok n)) }
 {
-    match i16::try_from(number(text)?) {
-        Ok(count) => Some(count),
-        Err(_) => None,
-    }
-}
-
-fn inputs(count: &str, letters: &str) -> Option<Inputs>
-    ensures { IfSome result (IsInputs count.now letters.now) }
-{
-    let count = count_of(count)?;
-    if letters != "-" && !are_switches(letters) {
-        return None;
-    }
-    Some(Inputs {
-        count,
-        positive: holds(letters, 'p'),
-        negative: holds(letters, 'n'),
-        home: holds(letters, 'h'),
-    })
-}
-
-fn cycle_line(words: &[&str]) -> Result<Line, Expected> {
-    match words {
-        [] => Ok(Line::Cycle(STILL, STILL)),
-        [c, s, d, t] => match (inputs(*c, *s), inputs(*d, *t)) {
-            (Some(left), Some(right)) => Ok(Line::Cycle(left, right)),
-            _ => Err(Expected::Cycle),
-        },
-        _ => Err(Expected::Cycle),
-    }
-}
-
-fn run_line(words: &[&str]) -> Result<Line, Expected> {
-    match words {
-        [text] => match number(*text) {
-            Some(n) => Ok(Line::Run(u32::try_from(n).ok().ok_or(Expected::Run)?)),
-            None => Err(Expected::Run),
-        },
-        _ => Err(Expected::Run),
-    }
+    N::try_from(number(text)?).ok()
 }
 
 fn gate(text: &str) -> Option<u8>
@@ -168,57 +85,113 @@ fn gate(text: &str) -> Option<u8>
     }
 }
 
-fn close_line(words: &[&str]) -> Result<Line, Expected> {
+// Whether a letter stands in a text.
+#[tactic(auto, using(std::proofs::lemmas::Str::Pattern::contains_char))]
+fn holds(text: &str, letter: char) -> bool
+    requires { letter < 128 }
+    ensures { Holds text.now letter result }
+{
+    text.contains(letter)
+}
+
+fn inputs(number: &str, letters: &str) -> Option<Inputs>
+    ensures { IfSome result (IsInputs number.now letters.now) }
+{
+    let count = fitting(number)?;
+    if letters != "-"
+        && !letters
+            .bytes()
+            .all(|letter| matches!(letter, b'p' | b'n' | b'h'))
+    {
+        return None;
+    }
+    Some(Inputs {
+        count,
+        positive: holds(letters, 'p'),
+        negative: holds(letters, 'n'),
+        home: holds(letters, 'h'),
+    })
+}
+
+// The only one of the words.
+fn only<'a>(words: &[&'a str]) -> Option<&'a str> {
     match words {
-        [g, w] => match (gate(*g), word(*w)) {
-            (Some(gate), Some(word)) => Ok(Line::Close(gate, word)),
-            _ => Err(Expected::Close),
-        },
-        _ => Err(Expected::Close),
+        [word] => Some(*word),
+        _ => None,
     }
 }
 
-fn packet_line(command: Command, words: &[&str]) -> Result<Line, Expected> {
-    match (command.takes(), words) {
-        (0, []) => Ok(Line::Packet(Packet::Plain(command))),
-        (0, _) => Err(Expected::NoValue),
-        (1, [text]) => Ok(Line::Packet(Packet::Word(
-            command,
-            word(*text).ok_or(Expected::WordValue)?,
-        ))),
-        (1, _) => Err(Expected::WordValue),
-        (_, [text]) => match number(*text) {
-            Some(n) => Ok(Line::Packet(Packet::Long(
-                command,
-                long_of(n).ok_or(Expected::LongValue)?,
-            ))),
-            None => Err(Expected::LongValue),
-        },
-        (_, _) => Err(Expected::LongValue),
+fn alone(words: &[&str], line: Line) -> Option<Line> {
+    words.is_empty().then_some(line)
+}
+
+fn cycle(words: &[&str]) -> Option<Line> {
+    match words {
+        [] => Some(Line::Cycle(Inputs::STILL, Inputs::STILL)),
+        [c, s, d, t] => Some(Line::Cycle(inputs(*c, *s)?, inputs(*d, *t)?)),
+        _ => None,
     }
 }
 
-impl Line {
-    // The line that words write.
-    pub fn read(words: &[&str]) -> Result<Line, Expected> {
+fn close(words: &[&str]) -> Option<Line> {
+    match words {
+        [g, w] => Some(Line::Close(gate(*g)?, word(*w)?)),
+        _ => None,
+    }
+}
+
+impl Packet {
+    // A command's packet, with the value that the words write.
+    fn read(command: Command, words: &[&str]) -> Result<Packet, Expected> {
+        match command.takes() {
+            0 => words
+                .is_empty()
+                .then_some(Packet::Plain(command))
+                .ok_or(Expected::NoValue),
+            1 => only(words)
+                .and_then(word)
+                .map(|value| Packet::Word(command, value))
+                .ok_or(Expected::WordValue),
+            _ => only(words)
+                .and_then(long)
+                .map(|value| Packet::Long(command, value))
+                .ok_or(Expected::LongValue),
+        }
+    }
+}
+
+// The line that words write.
+impl<'a> TryFrom<&'a [&'a str]> for Line {
+    type Error = Expected;
+
+    fn try_from(words: &'a [&'a str]) -> Result<Line, Expected> {
         let [verb, rest @ ..] = words else {
             return Ok(Line::Nothing);
         };
         match *verb {
-            "board" => board_line(rest),
-            "command" => command_line(rest),
-            "write" => write_line(rest),
-            "read" => bare_line(rest, Line::Read),
-            "cycle" => cycle_line(rest),
-            "run" => run_line(rest),
-            "reset" => bare_line(rest, Line::Reset),
-            "take" => bare_line(rest, Line::Take),
-            "close" => close_line(rest),
-            "pairs" => bare_line(rest, Line::Pairs),
-            name => match named(name) {
-                Some(command) => packet_line(command, rest),
-                None => Err(Expected::Line),
-            },
+            "board" => only(rest)
+                .and_then(side)
+                .map(Line::Board)
+                .ok_or(Expected::Board),
+            "command" => only(rest)
+                .and_then(code)
+                .map(Line::Command)
+                .ok_or(Expected::Command),
+            "write" => only(rest)
+                .and_then(word)
+                .map(Line::Write)
+                .ok_or(Expected::Word),
+            "read" => alone(rest, Line::Read).ok_or(Expected::Alone),
+            "cycle" => cycle(rest).ok_or(Expected::Cycle),
+            "run" => only(rest)
+                .and_then(fitting)
+                .map(Line::Run)
+                .ok_or(Expected::Run),
+            "reset" => alone(rest, Line::Reset).ok_or(Expected::Alone),
+            "take" => alone(rest, Line::Take).ok_or(Expected::Alone),
+            "close" => close(rest).ok_or(Expected::Close),
+            "pairs" => alone(rest, Line::Pairs).ok_or(Expected::Alone),
+            name => Packet::read(named(name).ok_or(Expected::Line)?, rest).map(Line::Packet),
         }
     }
 }

@@ -9,7 +9,7 @@ use gate::profile::ProfileMode;
 use gate::queries::Query;
 use wave::phases::MotorKind;
 
-// The command that a word names.
+// The command that a word names. FromStr for Command would have to stand in crate board, which knows no mnemonics.
 pub fn named(word: &str) -> Option<Command>
     ensures { Names word.now result }
 {
@@ -53,97 +53,4 @@ pub fn named(word: &str) -> Option<Command>
         "GET_TIME" => Command::Ask(Query::CycleTime),
         _ => return None,
     })
-}
-
-fn status_code(whose: Whose) -> u8
-    ensures { code_table result ≡ Some (Command.Status whose) }
-{
-    match whose {
-        Whose::First => 0x01,
-        Whose::Second => 0x02,
-        Whose::Calling => 0x08,
-        Whose::Current => 0x31,
-    }
-}
-
-fn break_code(mode: BreakMode) -> u8
-    ensures { code_table result ≡ Some (Command.Now (Order.Break mode)) }
-{
-    match mode {
-        BreakMode::Off => 0x6d,
-        BreakMode::Time => 0x17,
-        BreakMode::TargetAbove => 0x18,
-        BreakMode::TargetBelow => 0x19,
-        BreakMode::ActualAbove => 0x1b,
-        BreakMode::ActualBelow => 0x1c,
-        BreakMode::Complete => 0x35,
-        BreakMode::External => 0x5e,
-    }
-}
-
-fn order_code(order: Order) -> u8
-    ensures { code_table result ≡ Some (Command.Now order) }
-{
-    match order {
-        Order::Break(mode) => break_code(mode),
-        Order::Mode(ProfileMode::Trapezoidal) => 0x09,
-        Order::Mode(ProfileMode::Velocity) => 0x0a,
-        Order::Stop => 0x46,
-        Order::Update => 0x1a,
-        Order::Auto(true) => 0x5c,
-        Order::Auto(false) => 0x5d,
-        Order::Motor(MotorKind::TwoPhase) => 0x74,
-        Order::Motor(MotorKind::ThreePhase) => 0x73,
-    }
-}
-
-fn word_code(order: WordOrder) -> u8
-    ensures { code_table result ≡ Some (Command.Word order) }
-{
-    match order {
-        WordOrder::BufferedPower => 0x77,
-        WordOrder::Power => 0x62,
-        WordOrder::Status => 0x34,
-        WordOrder::Mask => 0x2f,
-    }
-}
-
-fn long_code(order: LongOrder) -> u8
-    ensures { code_table result ≡ Some (Command.Long order) }
-{
-    match order {
-        LongOrder::Destination => 0x10,
-        LongOrder::Velocity => 0x11,
-        LongOrder::Acceleration => 0x12,
-        LongOrder::Point => 0x16,
-        LongOrder::Actual => 0x4d,
-    }
-}
-
-fn query_code(query: Query) -> u8
-    ensures { code_table result ≡ Some (Command.Ask query) }
-{
-    match query {
-        Query::Position => 0x4a,
-        Query::Velocity => 0x4b,
-        Query::Acceleration => 0x4c,
-        Query::TargetPosition => 0x1d,
-        Query::TargetVelocity => 0x1e,
-        Query::ActualPosition => 0x37,
-        Query::CycleTime => 0x3e,
-    }
-}
-
-// The code of a command.
-pub fn code_of(command: Command) -> u8
-    ensures { code_table result ≡ Some command }
-{
-    match command {
-        Command::Status(whose) => status_code(whose),
-        Command::Ask(query) => query_code(query),
-        Command::Now(order) => order_code(order),
-        Command::Word(order) => word_code(order),
-        Command::Long(order) => long_code(order),
-        Command::MultiUpdate => 0x5b,
-    }
 }

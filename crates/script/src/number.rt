@@ -6,19 +6,13 @@ fn hexadecimal(digits: &str) -> Option<i64>
     if digits.starts_with('+') {
         return None;
     }
-    match u32::from_str_radix(digits, 16) {
-        Ok(number) => Some(i64::from(number)),
-        Err(_) => None,
-    }
+    u32::from_str_radix(digits, 16).ok().map(i64::from)
 }
 
 fn decimal(word: &str) -> Option<i64>
     ensures { Decimal word.now result }
 {
-    match word.parse::<i64>() {
-        Ok(number) => Some(number),
-        Err(_) => None,
-    }
+    word.parse::<i64>().ok()
 }
 
 // The number that a word writes: decimal, with or without a sign, or 0x and hexadecimal digits.
@@ -31,28 +25,23 @@ pub fn number(word: &str) -> Option<i64>
     }
 }
 
-// The 16 bits of a signed or an unsigned number.
-pub fn word_of(number: i64) -> Option<u16>
-    ensures { Bits 32768 number result }
-{
-    if number < -32_768 || number > 65_535 {
-        return None;
-    }
-    Some((if number < 0 { number + 65_536 } else { number }) as u16)
-}
+// Half of the values of one word, and of two.
+pub const WORD: u32 = 0x8000;
 
-// The 32 bits of a signed or an unsigned number.
-pub fn long_of(number: i64) -> Option<u32>
-    ensures { Bits 2147483648 number result }
+pub const LONG: u32 = 0x8000_0000;
+
+// The bits of a signed or an unsigned number of a width with 2 × HALF values.
+pub fn bits_of<const HALF: u32>(number: i64) -> Option<u64>
+    ensures { Bits HALF number result }
 {
-    if number < -2_147_483_648 || number > 4_294_967_295 {
+    let half = i64::from(HALF);
+    if number < -half || number >= 2 * half {
         return None;
     }
-    Some(
-        (if number < 0 {
-            number + 4_294_967_296
-        } else {
-            number
-        }) as u32,
-    )
+    let bits = if number < 0 {
+        number + 2 * half
+    } else {
+        number
+    };
+    Some(bits as u64)
 }

@@ -1,11 +1,10 @@
 use board::refusal::Refusal;
 use std::fmt;
 
-// What a line of a script is answered.
-#[derive(Clone, Copy, PartialEq)]
+// What a line of a script is answered, unless one of its acts is refused.
+#[derive(Clone, Copy, Debug, PartialEq, Eq)]
 pub enum Reply {
     Done,
-    Refused(Refusal),
     Word(u16),
     Slip(u8),
     NoSlip,
@@ -18,15 +17,27 @@ impl fmt::Display for Reply {
     fn fmt<W: fmt::Write>(&self, f: &mut fmt::Formatter<W>) -> fmt::Result {
         match *self {
             Reply::Done => f.write_str("ok"),
-            Reply::Refused(refusal) => {
-                let number = refusal.number();
-                write!(f, "refused {number}")
-            }
             Reply::Word(word) => write!(f, "word {word}"),
             Reply::Slip(gate) => write!(f, "slip {gate}"),
             Reply::NoSlip => f.write_str("no slip"),
             Reply::Pairs((a, b), (c, d)) => write!(f, "pairs {a} {b} {c} {d}"),
             Reply::Value(value) => write!(f, "value {value}"),
+        }
+    }
+}
+
+// A reply or a refusal, as the console prints it.
+#[derive(Clone, Copy, Debug, PartialEq, Eq)]
+pub struct Answer(pub Result<Reply, Refusal>);
+
+impl fmt::Display for Answer {
+    fn fmt<W: fmt::Write>(&self, f: &mut fmt::Formatter<W>) -> fmt::Result {
+        match self.0 {
+            Ok(reply) => write!(f, "{reply}"),
+            Err(refusal) => {
+                let number = refusal.number();
+                write!(f, "refused {number}")
+            }
         }
     }
 }

@@ -3,20 +3,19 @@
 
 #[cfg(test)]
 mod tests {
+    use board::refusal::Refusal;
     use desk::desk::Desk;
     use script::fault::Expected;
     use script::line::Line;
-    use script::number::{long_of, number, word_of};
+    use script::number::{LONG, WORD, bits_of, number};
     use script::play::play;
-    use script::reply::Reply;
+    use script::reply::{Answer, Reply};
     use stage::dac::Dac;
+    use std::test::Fail;
 
     // What is expected in place of the words, or none where they are a line.
     fn fault(words: &[&str]) -> Option<Expected> {
-        match Line::read(words) {
-            Ok(_) => None,
-            Err(expected) => Some(expected),
-        }
+        Line::try_from(words).err()
     }
 
     #[test]
@@ -62,21 +61,28 @@ mod tests {
         assert_eq!(rt; number("-0x1f"), None);
         assert_eq!(rt; number("0x+1"), None);
         assert_eq!(rt; number("+7"), Some(7));
-        assert_eq!(rt; word_of(-1), Some(65_535));
-        assert_eq!(rt; word_of(-32_769), None);
-        assert_eq!(rt; long_of(-2_147_483_648), Some(2_147_483_648));
-        assert_eq!(rt; long_of(4_294_967_296), None);
+        assert_eq!(rt; bits_of::<WORD>(-1), Some(65_535));
+        assert_eq!(rt; bits_of::<WORD>(-32_769), None);
+        assert_eq!(rt; bits_of::<LONG>(-2_147_483_648), Some(2_147_483_648));
+        assert_eq!(rt; bits_of::<LONG>(4_294_967_296), None);
     }
 
     #[test]
-    fn played(rt: HostRuntime) {
+    fn played(rt: HostRuntime) -> Result<(), Fail> {
+        let line = Line::try_from(["GET_ACC"].as_slice())?;
         let mut desk = Desk::new(Dac::new());
-        let line = Line::read(&["GET_ACC"]).ok();
-        let reply = match line {
-            Some(line) => play(&mut desk, line),
-            None => None,
-        };
+        let reply = play(&mut desk, line);
         let _board = desk.finish();
-        assert!(rt; reply == Some(Reply::Value(1)));
+        assert_eq!(rt; reply, Ok(Some(Reply::Value(1))));
+        Ok(())
+    }
+
+    #[test]
+    fn printed(rt: HostRuntime) -> Result<(), Fail> {
+        let pairs = Answer(Ok(Reply::Pairs((-804, 32_757), (0, 0)))).to_string(rt.alloc())?;
+        let refused = Answer(Err(Refusal::NotGiving)).to_string(rt.alloc())?;
+        assert_eq!(rt; pairs.as_str(), "pairs -804 32757 0 0");
+        assert_eq!(rt; refused.as_str(), "refused 4");
+        Ok(())
     }
 }
