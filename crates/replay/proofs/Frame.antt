@@ -1,26 +1,22 @@
 -- The answers behind the 8 bytes that say how many they are.
-use Rattle.std.proofs.Common.{◌≡◌, ℕ, ◌+◌, ◌-◌, ◌≤◌, List, ◌++◌, length, take, drop, sym, ap, ◌∙◌, arith, length-append, length-drop, drop_at}
+use Rattle.std.proofs.Common.{◌≡◌, ℕ, ◌+◌, ◌-◌, List, ◌++◌, length, take, Result, sym, ap, ◌∙◌, subst, arith, length-append}
 use lib.Seq.{take-append-add}
-use Rattle.std.proofs.lemmas.List.{drop-take, length-take-le}
+use Rattle.stage.specs.declared.Stage.{Ghosts}
+use Rattle.replay.specs.declared.fault.Fault.{Fault}
 use Rattle.replay.specs.Numbers.{eight_bytes}
+use Rattle.replay.specs.Replays.{AnsweredBy, Filled, Answered}
 
-module _ (out q w bytes : List ℕ) (len : ℕ) (l : 8 ≤ length out) (head : w ≡ eight_bytes (len - 8)) where
-  pub framed : len ≡ 8 + length bytes → take len q ≡ take 8 out ++ bytes → (x : List ℕ) → x ≡ q → take (8 + length bytes) (w ++ drop 8 x) ≡ eight_bytes (length bytes) ++ bytes
-  framed n said x same =
-      let k : len - 8 ≡ length bytes = omega arith in
-      let rest : take (length bytes) (drop 8 q) ≡ bytes = sym (drop-take 8 (length bytes) q) ∙ (ap (λ j. drop 8 (take j q)) (sym n) ∙ (ap (drop 8) said ∙ drop_at (take 8 out) bytes 8 (length-take-le 8 out l))) in
-      ap (λ z. take (8 + length bytes) (z ++ drop 8 x)) (head ∙ ap eight_bytes k)
-      ∙ (ap (λ z. take (8 + length bytes) (eight_bytes (length bytes) ++ drop 8 z)) same
-      ∙ (take-append-add (eight_bytes (length bytes)) (drop 8 q) (length bytes) ∙ ap (λ z. eight_bytes (length bytes) ++ z) rest))
-
-  pub frame_size : length q ≡ length out → (x : List ℕ) → x ≡ q → length (w ++ drop 8 x) ≡ length out
-  frame_size e x same =
-      let a = length-append w (drop 8 x) in
-      let b = ap length head in
-      let c = length-drop 8 x in
-      let d = ap length same in
-      omega arith
-
--- what a loan that keeps its name leaves
-pub follows : {N : Type 0} {n m : N} → n ≡ m → (x y : List ℕ) → (n ≡ m → x ≡ y) → x ≡ y
-follows e x y f = f e
+-- a head of 8 bytes in front of the room that was filled
+pub framed : {S R : Type 0} (m : Ghosts S) (n : Ghosts R) (xs out room last head : List ℕ) (count : ℕ) (r s : Result (Unit {0}) Fault) → length room + 8 ≡ length out → head ≡ eight_bytes count → r ≡ s → Filled m n xs room last count r → Answered m n xs out (head ++ last) s
+framed m n xs out room last head count r s size says same f =
+    let bytes = f.0 in
+    let room_is : length room ≡ length out - 8 = omega arith in
+    let says_all : head ≡ eight_bytes (length bytes) = says ∙ ap eight_bytes f.3 in
+    let long : length head ≡ 8 = ap length says in
+    let kept = f.2 in
+    let said : take (length bytes) last ≡ bytes = ap (λ j. take j last) (sym f.3) ∙ f.4 in (
+      bytes,
+      subst (λ k. AnsweredBy m n xs k bytes s) room_is (subst (λ e. AnsweredBy m n xs (length room) bytes e) same f.1),
+      omega (arith, length-append head last),
+      ap (λ z. take (8 + length bytes) (z ++ last)) says_all ∙ (take-append-add (eight_bytes (length bytes)) last (length bytes) ∙ ap (λ z. eight_bytes (length bytes) ++ z) said),
+    )

@@ -1,17 +1,18 @@
 -- The bytes of the answers.
-use Rattle.std.specs.Prelude.{ℕ, List, [], ◌∷◌}
+use Rattle.std.specs.Prelude.{ℕ, List, [], ◌∷◌, Ok, Err, Result}
 use Rattle.stage.specs.declared.Stage.{Ghosts}
 use Rattle.board.specs.declared.board.Board.{Board}
+use Rattle.board.specs.declared.refusal.Refusal.{Refusal}
 use Rattle.board.specs.Refusals.{number}
 use Rattle.replay.specs.declared.answer.Answer.{Answer}
-use Rattle.replay.specs.declared.answer.Answer.TheVariants.{Accepted, Refused, Word, Slip, NoSlip, Look}
+use Rattle.replay.specs.declared.answer.Answer.TheVariants.{Accepted, Word, Slip, NoSlip, Look}
 use Rattle.replay.specs.Numbers.{two_bytes}
 use Rattle.replay.specs.Looks.{look_bytes}
 
-abbrev pub answer_bytes : {S : Type 0} (m : Ghosts S) → Answer → Board S m → List ℕ
-answer_bytes m Accepted b = 0 ∷ []
-answer_bytes m (Refused e) b = number e ∷ []
-answer_bytes m (Word w) b = 0x10 ∷ two_bytes w
-answer_bytes m (Slip gate) b = 0x11 ∷ gate ∷ []
-answer_bytes m NoSlip b = 0x12 ∷ []
-answer_bytes m Look b = look_bytes m b
+abbrev pub answer_bytes : {S : Type 0} (m : Ghosts S) → Result Answer Refusal → Board S m → List ℕ
+answer_bytes m (Ok Accepted) b = 0 ∷ []
+answer_bytes m (Ok (Word w)) b = 0x10 ∷ two_bytes w
+answer_bytes m (Ok (Slip gate)) b = 0x11 ∷ gate ∷ []
+answer_bytes m (Ok NoSlip) b = 0x12 ∷ []
+answer_bytes m (Ok Look) b = look_bytes m b
+answer_bytes m (Err e) b = number e ∷ []

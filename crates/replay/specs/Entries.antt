@@ -1,11 +1,13 @@
--- How the entries of a list are coded, and what a place of a list is read as.
-use Rattle.std.specs.Prelude.{◌≡◌, ℕ, ◌+◌, ◌%◌, ◌<◌, ◌≤◌, Bool, true, false, cond, ◌&&◌, ◌||◌, List, [], ◌∷◌, ◌++◌, length, Ok, Err, Result, ◌==◌, nat_lt, slice_index}
+-- How the entries of a list are coded, and what a list is read as.
+use Rattle.std.specs.Prelude.{◌≡◌, ℕ, ◌+◌, ◌%◌, ◌<◌, ◌≤◌, Bool, true, false, cond, ◌&&◌, ◌||◌, List, [], ◌∷◌, ◌++◌, length, ◌==◌, nat_lt, slice_index, Ok, Err, Result}
+use Rattle.std.specs.Borrow.{Bor}
 use Rattle.std.specs.Int.{w16}
 use Rattle.std.proofs.Common.{of_z}
 use Rattle.stage.specs.Pairs.{is_gate}
 use Rattle.gate.specs.declared.inputs.Inputs.{Inputs}
-use Rattle.replay.specs.declared.entry.Side.{Side}
-use Rattle.replay.specs.declared.entry.Side.TheVariants as side
+use Rattle.desk.specs.declared.side.Side.{Side}
+use Rattle.desk.specs.declared.side.Side.TheVariants as side
+use Rattle.replay.specs.declared.entry.Closing.{Closing}
 use Rattle.replay.specs.declared.entry.Entry.{Entry}
 use Rattle.replay.specs.declared.entry.Entry.TheVariants.{Command, Write, Read, Cycle, Reset, Take, Close, CloseElsewhere, Look, Run}
 use Rattle.replay.specs.declared.entry.Step.{Step}
@@ -66,11 +68,6 @@ Good (CloseElsewhere c) = is_gate c.gate ≡ true
 Good Look = Unit {0}
 Good (Run n) = Unit {0}
 
--- bytes stand in a list from a place on
-abbrev pub Holds : List ℕ → ℕ → List ℕ → Type 0
-Holds xs at [] = Unit {0}
-Holds xs at (b ∷ bs) = (slice_index xs at ≡ b) × Holds xs (at + 1) bs
-
 -- whether an entry begins with a byte, at board a
 abbrev pub known : ℕ → Bool
 known code = nat_lt code 10
@@ -80,24 +77,39 @@ abbrev pub size : ℕ → ℕ
 size code =
     cond (code == 0) 2 (cond (code == 3) 7 (cond (code == 1 || code == 9) 3 (cond (code == 6 || code == 7) 4 1)))
 
--- whether the operands from a place on are in their ranges: no switch bit from 3 on, a gate that there is
-abbrev pub in_range : ℕ → List ℕ → ℕ → Bool
-in_range code xs at =
-    cond (code == 3) (nat_lt (slice_index xs (at + 2)) 8 && nat_lt (slice_index xs (at + 5)) 8) (cond (code == 6 || code == 7) (is_gate (slice_index xs at)) true)
+-- whether the operands that a list begins with are in their ranges: no switch bit from 3 on, a gate that there is
+abbrev pub in_range : ℕ → List ℕ → Bool
+in_range code xs =
+    cond (code == 3) (nat_lt (slice_index xs 2) 8 && nat_lt (slice_index xs 5) 8) (cond (code == 6 || code == 7) (is_gate (slice_index xs 0)) true)
 
--- what the list is read as at a place: the entry that stands there with all its bytes, or the first fault that there is
-abbrev pub Reads : List ℕ → ℕ → Result Step Fault → Type 0
-Reads xs at (Ok s) =
-    Holds xs at (coded s.side s.entry) × Good s.entry × (s.next ≡ at + length (coded s.side s.entry)) × (s.next ≤ length xs)
-Reads xs at (Err Unknown) = known (slice_index xs at % 128) ≡ false
-Reads xs at (Err CutShort) = (known (slice_index xs at % 128) ≡ true) × (length xs < at + size (slice_index xs at % 128))
-Reads xs at (Err Operand) =
-    (known (slice_index xs at % 128) ≡ true) × (at + size (slice_index xs at % 128) ≤ length xs) × (in_range (slice_index xs at % 128) xs (at + 1) ≡ false)
-Reads xs at (Err NoRoom) = ⊥
-
--- an entry's operands, by its code
-pub record Operands (xs : List ℕ) (at code : ℕ) (e : Entry) : Type 0 where
-  pub holds : Holds xs at (operand_bytes e)
+-- an entry's operands, by its code, and the rest of the list that they stand in
+pub record Carries (code : ℕ) (xs : List ℕ) (e : Entry) (rest : List ℕ) : Type 0 where
   pub says : code_of e ≡ code
+  pub holds : xs ≡ operand_bytes e ++ rest
   pub good : Good e
-  pub long : size code ≡ 1 + length (operand_bytes e)
+
+-- the same of a slip to close
+pub record CarriesClosing (xs : List ℕ) (c : Closing) (rest : List ℕ) : Type 0 where
+  pub holds : xs ≡ (c.gate ∷ two_bytes c.word) ++ rest
+  pub good : is_gate c.gate ≡ true
+
+-- the first fault of a code and of the list that its operands should begin
+abbrev pub FailsAt : ℕ → List ℕ → Fault → Type 0
+FailsAt code xs Unknown = known code ≡ false
+FailsAt code xs CutShort = (known code ≡ true) × (1 + length xs < size code)
+FailsAt code xs Operand = (known code ≡ true) × (size code ≤ 1 + length xs) × (in_range code xs ≡ false)
+FailsAt code xs NoRoom = ⊥
+
+-- a list begins with all the bytes of a step, and the rest stands behind them
+abbrev pub Begins : List ℕ → Step → List ℕ → Type 0
+Begins xs s rest = (xs ≡ coded s.side s.entry ++ rest) × Good s.entry
+
+-- the first fault of a list that begins with no step
+abbrev pub Fails : List ℕ → Fault → Type 0
+Fails [] f = ⊥
+Fails (x ∷ xs) f = FailsAt (x % 128) xs f
+
+-- what a list is read as: the step that it begins with, and the rest; or the first fault that there is
+abbrev pub Reads : List ℕ → Result (Step × Bor (List ℕ)) Fault → Type 0
+Reads xs (Ok p) = Begins xs p.0 p.1.now
+Reads xs (Err f) = Fails xs f

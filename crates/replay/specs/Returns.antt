@@ -1,8 +1,9 @@
 -- What the library's function returns and leaves.
 use Rattle.std.specs.Prelude.{◌≡◌, ℕ, ◌<◌, ◌≤◌, ◌⊎◌, List, length, Ok, Err, Result}
 use Rattle.stage.specs.declared.Stage.{Ghosts}
-use Rattle.stage.specs.declared.dac.Dac.{Dac}
-use Rattle.stage.specs.declared.pwm.Pwm.{Pwm}
+use Rattle.stage.specs.declared.dac.Word.{Word}
+use Rattle.stage.specs.declared.levels.Levels.{Levels}
+use Rattle.stage.specs.declared.pwm.Lines.{Lines}
 use Rattle.stage.specs.declared.wiring.Wiring.{Wiring}
 use Rattle.stage.specs.Dac.{dac_pairs}
 use Rattle.stage.specs.Pwm.{pwm_pairs}
@@ -13,11 +14,11 @@ use Rattle.replay.specs.Faults.{number}
 use Rattle.replay.specs.Replays.{Answered}
 
 -- the stages of board a and of board b
-abbrev pub stage_a : Ghosts Dac
-stage_a = record { step = 1; pairs = λ s. dac_pairs s.words }
+abbrev pub stage_a : Ghosts (Levels Word)
+stage_a = record { STEP = 1; pairs = dac_pairs }
 
-abbrev pub stage_b : Ghosts (Wiring Pwm)
-stage_b = record { step = 128; pairs = λ s. undone_pairs s.one s.two (pwm_pairs s.below.one s.below.two) }
+abbrev pub stage_b : Ghosts (Wiring (Levels Lines))
+stage_b = record { STEP = 128; pairs = λ s. undone_pairs s.one s.two (pwm_pairs s.below) }
 
 abbrev pub returned : Result (Unit {0}) Fault → ℕ
 returned (Ok u) = 0

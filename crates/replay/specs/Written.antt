@@ -11,7 +11,6 @@ Room o n = o.len + n ≤ length o.bytes.now
 -- bytes were written behind those that stood
 pub record Wrote (o p : Out) (more : List ℕ) : Type 0 where
   pub len : p.len ≡ o.len + length more
-  pub fits : p.len ≤ length p.bytes.now
   pub size : length p.bytes.now ≡ length o.bytes.now
   pub said : take p.len p.bytes.now ≡ take o.len o.bytes.now ++ more
   pub lent : p.bytes.ghost_name ≡ o.bytes.ghost_name

@@ -1,17 +1,11 @@
-ghost use Rattle.std.specs.Prelude.{◌≡◌, ◌+◌, ◌<◌, ◌≤◌, true, false, ◌∷◌, length, MatchOption, nat_lt, slice_index};
-ghost use Rattle.stage.specs.Pairs.{is_gate};
+ghost use Rattle.std.specs.Prelude.{◌≡◌, ◌<◌, false, ◌∷◌, [], ◌++◌, length, MatchResult, nat_lt};
+ghost use Rattle.replay.specs.declared.fault.Fault.TheVariants.{CutShort, Operand};
+ghost use Rattle.replay.specs.Entries.{input_bytes, Reads, CarriesClosing, Carries, FailsAt};
 ghost use Rattle.replay.specs.Numbers.{two_bytes};
-ghost use Rattle.replay.specs.Entries.{known, size, in_range, input_bytes, Holds, Operands, Reads};
 
 use crate::fault::Fault;
+use desk::side::Side;
 use gate::inputs::Inputs;
-
-// The board that an entry speaks of.
-#[derive(Clone, Copy, PartialEq, Debug)]
-pub enum Side {
-    A,
-    B,
-}
 
 // A gate's number, 1 or 2, and the word that its slip is closed with.
 #[derive(Clone, Copy)]
@@ -35,121 +29,119 @@ pub enum Entry {
     Run(u16),
 }
 
-// An entry, its board, and the place behind it.
+// An entry and its board.
 #[derive(Clone, Copy)]
 pub struct Step {
-    pub entry: Entry,
     pub side: Side,
-    pub next: usize,
+    pub entry: Entry,
 }
 
-// How many bytes an entry takes, by its first byte at board a.
-fn size(code: u8) -> Option<usize>
-    ensures { MatchOption result (known code ≡ false) (λ n. (known code ≡ true) × (n ≡ size code)) }
+// The word that a list begins with, the high byte first, and the rest of the list.
+fn word(list: &[u8]) -> Result<(u16, &[u8]), Fault>
+    ensures { MatchResult result (λ p. list.now ≡ two_bytes p.0 ++ p.1.now) (λ f. (f ≡ CutShort) × (length list.now < 2)) }
 {
-    match code {
-        0 => Some(2),
-        1 => Some(3),
-        2 => Some(1),
-        3 => Some(7),
-        4 => Some(1),
-        5 => Some(1),
-        6 => Some(4),
-        7 => Some(4),
-        8 => Some(1),
-        9 => Some(3),
-        _ => None,
+    match list {
+        [high, low, rest @ ..] => Ok((u16::from_be_bytes([*high, *low]), rest)),
+        _ => Err(Fault::CutShort),
     }
-}
-
-// Two bytes, the high one first.
-fn word(list: &[u8], at: usize) -> u16
-    requires { at + 2 ≤ length list.now }
-    ensures { Holds list.now at (two_bytes result) }
-{
-    u16::from_be_bytes([list[at], list[at + 1]])
 }
 
 // What a cycle brings to one gate; none if a switch bit from 3 on is set.
-fn inputs(list: &[u8], at: usize) -> Option<Inputs>
-    requires { at + 3 ≤ length list.now }
-    ensures { MatchOption result (nat_lt (slice_index list.now (at + 2)) 8 ≡ false) (λ i. Holds list.now at (input_bytes i)) }
+fn inputs(count: u16, switches: u8) -> Result<Inputs, Fault>
+    ensures { MatchResult result (λ i. input_bytes i ≡ two_bytes count ++ (switches ∷ [])) (λ f. (f ≡ Operand) × (nat_lt switches 8 ≡ false)) }
 {
-    let switches = list[at + 2];
     if switches >= 8 {
-        return None;
+        return Err(Fault::Operand);
     }
-    Some(Inputs {
-        count: word(list, at).cast_signed(),
-        positive: switches % 2 == 1,
-        negative: switches / 2 % 2 == 1,
-        home: switches / 4 == 1,
+    Ok(Inputs {
+        count: count.cast_signed(),
+        positive: switches & 1 != 0,
+        negative: switches & 2 != 0,
+        home: switches & 4 != 0,
     })
 }
 
-fn cycle(list: &[u8], at: usize) -> Option<Entry>
-    requires { at + 6 ≤ length list.now }
-    ensures { MatchOption result (in_range 3 list.now at ≡ false) (λ e. Operands list.now at 3 e) }
+fn cycle(list: &[u8]) -> Result<(Entry, &[u8]), Fault>
+    ensures { MatchResult result (λ p. Carries 3 list.now p.0 p.1.now) (FailsAt 3 list.now) }
 {
-    let left = inputs(list, at)?;
-    let right = inputs(list, at + 3)?;
-    Some(Entry::Cycle(left, right))
+    let [
+        left_high,
+        left_low,
+        left,
+        right_high,
+        right_low,
+        right,
+        rest @ ..,
+    ] = list
+    else {
+        return Err(Fault::CutShort);
+    };
+    let left = inputs(u16::from_be_bytes([*left_high, *left_low]), *left)?;
+    let right = inputs(u16::from_be_bytes([*right_high, *right_low]), *right)?;
+    Ok((Entry::Cycle(left, right), rest))
 }
 
-fn slip_to_close(list: &[u8], at: usize) -> Option<Closing>
-    requires { at + 3 ≤ length list.now }
-    ensures { MatchOption result (is_gate (slice_index list.now at) ≡ false) (λ c. Holds list.now at (c.gate ∷ two_bytes c.word) × (is_gate c.gate ≡ true)) }
+fn slip_to_close(list: &[u8]) -> Result<(Closing, &[u8]), Fault>
+    ensures { MatchResult result (λ p. CarriesClosing list.now p.0 p.1.now) (FailsAt 6 list.now) }
 {
-    let gate = list[at];
-    match gate {
-        1 | 2 => Some(Closing {
-            gate,
-            word: word(list, at + 1),
-        }),
-        _ => None,
-    }
-}
-
-// The entry of a code whose operands begin at a place; none if one is out of its range.
-fn operands(code: u8, list: &[u8], at: usize) -> Option<Entry>
-    requires { (known code ≡ true) × (at + size code ≤ length list.now + 1) }
-    ensures { MatchOption result (in_range code list.now at ≡ false) (λ e. Operands list.now at code e) }
-{
-    match code {
-        0 => Some(Entry::Command(list[at])),
-        1 => Some(Entry::Write(word(list, at))),
-        2 => Some(Entry::Read),
-        3 => cycle(list, at),
-        4 => Some(Entry::Reset),
-        5 => Some(Entry::Take),
-        6 => Some(Entry::Close(slip_to_close(list, at)?)),
-        7 => Some(Entry::CloseElsewhere(slip_to_close(list, at)?)),
-        8 => Some(Entry::Look),
-        _ => Some(Entry::Run(word(list, at))),
+    match list {
+        [gate @ (1 | 2), high, low, rest @ ..] => {
+            let word = u16::from_be_bytes([*high, *low]);
+            Ok((Closing { gate: *gate, word }, rest))
+        }
+        [_, _, _, ..] => Err(Fault::Operand),
+        _ => Err(Fault::CutShort),
     }
 }
 
 impl Entry {
-    // The entry that begins at a place of the list. Its operands are looked at only if all of it is there.
-    pub fn read(list: &[u8], at: usize) -> Result<Step, Fault>
-        requires { at < length list.now }
-        ensures { Reads list.now at result }
+    // The entry of a code, whose operands the list begins with, and the rest of the list.
+    fn read(code: u8, list: &[u8]) -> Result<(Entry, &[u8]), Fault>
+        ensures { MatchResult result (λ p. Carries code list.now p.0 p.1.now) (FailsAt code list.now) }
     {
-        let first = list[at];
+        match code {
+            0 => match list {
+                [command, rest @ ..] => Ok((Entry::Command(*command), rest)),
+                [] => Err(Fault::CutShort),
+            },
+            1 => {
+                let (word, rest) = word(list)?;
+                Ok((Entry::Write(word), rest))
+            }
+            2 => Ok((Entry::Read, list)),
+            3 => cycle(list),
+            4 => Ok((Entry::Reset, list)),
+            5 => Ok((Entry::Take, list)),
+            6 => {
+                let (closing, rest) = slip_to_close(list)?;
+                Ok((Entry::Close(closing), rest))
+            }
+            7 => {
+                let (closing, rest) = slip_to_close(list)?;
+                Ok((Entry::CloseElsewhere(closing), rest))
+            }
+            8 => Ok((Entry::Look, list)),
+            9 => {
+                let (cycles, rest) = word(list)?;
+                Ok((Entry::Run(cycles), rest))
+            }
+            _ => Err(Fault::Unknown),
+        }
+    }
+}
+
+impl Step {
+    // The step that a byte and the list behind it begin with, and the rest of the list. Its operands are looked at only if all of them are
+    // there.
+    pub fn read(first: u8, list: &[u8]) -> Result<(Step, &[u8]), Fault>
+        ensures { Reads (first ∷ list.now) result }
+    {
         let (side, code) = if first < 128 {
             (Side::A, first)
         } else {
             (Side::B, first - 128)
         };
-        let size = size(code).ok_or(Fault::Unknown)?;
-        if list.len() - at < size {
-            return Err(Fault::CutShort);
-        }
-        let entry = operands(code, list, at + 1).ok_or(Fault::Operand)?;
-        Ok(Step {
-            entry,
-            side,
-            next: at + size,
-        })
+        let (entry, rest) = Entry::read(code, list)?;
+        Ok((Step { side, entry }, rest))
     }
 }

@@ -1,28 +1,12 @@
-ghost use Rattle.std.specs.Prelude.{◌≡◌};
-ghost use Rattle.replay.specs.Faults.{number};
-
-// Why a list was not played to its end.
+// Why a list was not played to its end, by the number that is returned for it.
 #[derive(Clone, Copy, PartialEq, Debug)]
 pub enum Fault {
     // a byte that no entry begins with
-    Unknown,
+    Unknown = 1,
     // the list ends within an entry
-    CutShort,
+    CutShort = 2,
     // an operand is out of its range
-    Operand,
+    Operand = 3,
     // an answer does not fit
-    NoRoom,
-}
-
-impl Fault {
-    pub fn number(self) -> u32
-        ensures { result ≡ number self }
-    {
-        match self {
-            Fault::Unknown => 1,
-            Fault::CutShort => 2,
-            Fault::Operand => 3,
-            Fault::NoRoom => 4,
-        }
-    }
+    NoRoom = 4,
 }

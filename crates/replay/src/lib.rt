@@ -1,20 +1,20 @@
 // Plays a list of acts, coded as bytes, against two new boards, and writes what they answer as bytes.
 #![tactic(auto)]
 
-ghost use Rattle.std.specs.Prelude.{◌≡◌, ◌≤◌, true, false, length};
-ghost use Rattle.replay.specs.Replays.{Answered};
+ghost use Rattle.std.specs.Prelude.{◌≡◌, true, false};
+ghost use Rattle.replay.specs.Replays.{Filled};
 ghost use Rattle.replay.specs.Returns.{Returns};
 
+use crate::boards::Boards;
 use crate::fault::Fault;
 use crate::out::Out;
-use crate::play::play_list;
-use desk::desk::Desk;
 use stage::Stage;
 use stage::dac::Dac;
 use stage::pwm::Pwm;
 use stage::wiring::{Wire, Wiring};
 
 pub mod answer;
+pub mod boards;
 pub mod entry;
 pub mod fault;
 pub mod look;
@@ -37,37 +37,36 @@ fn wired() -> Wiring<Pwm>
     Wiring::new(Pwm::new(), one, two)
 }
 
-// Plays a list against new boards over two stages. Their slips that are left are closed at the end.
+// Plays a list against new boards over two stages, and answers how many bytes were written.
 fn replay<S: Stage + Drop, R: Stage + Drop>(
     one: S,
     two: R,
     list: &[u8],
-    bytes: &mut [u8],
-) -> Result<(), Fault>
-    requires { 8 ≤ length bytes.old }
-    ensures { Answered S.Stage R.Stage list.now bytes.old bytes.new result }
+    room: &mut [u8],
+) -> (usize, Result<(), Fault>)
+    ensures { Filled S.Stage R.Stage list.now room.old room.new result.0 result.1 }
 {
-    let mut a = Desk::new(one);
-    let mut b = Desk::new(two);
-    let mut out = Out { bytes, len: 8 };
-    let played = play_list(&mut a, &mut b, list, &mut out);
-    let count = (out.len - 8) as u64;
-    let _ = a.finish();
-    let _ = b.finish();
-    bytes[0..8].copy_from_slice(&count.to_be_bytes());
-    played
+    let mut boards = Boards::new(one, two);
+    let mut out = Out {
+        bytes: room,
+        len: 0,
+    };
+    let played = boards.play(list, &mut out);
+    (out.len, played)
 }
 
 #[unsafe(no_mangle)]
 pub extern "C" fn two_gate_replay(list: &[u8], out: &mut [u8]) -> u32
     ensures { Returns list.now out.old out.new result }
 {
-    if out.len() < 8 {
-        return Fault::NoRoom.number();
-    }
-    match replay(Dac::new(), wired(), list, out) {
+    let Some((head, room)) = out.split_first_chunk_mut::<8>() else {
+        return Fault::NoRoom as u32;
+    };
+    let (count, played) = replay(Dac::new(), wired(), list, room);
+    *head = (count as u64).to_be_bytes();
+    match played {
         Ok(()) => 0,
-        Err(fault) => fault.number(),
+        Err(fault) => fault as u32,
     }
 }
 

@@ -1,6 +1,4 @@
-ghost use Rattle.std.specs.Prelude.{◌≡◌, ◌-◌, true};
-ghost use Rattle.stage.specs.Pairs.{is_gate};
-ghost use Rattle.board.specs.Acts.{gate_of, state_of};
+ghost use Rattle.std.specs.Prelude.{◌≡◌};
 ghost use Rattle.replay.specs.Looks.{mode_byte, break_byte, motor_byte, pair_bytes, profile_bytes, motion_bytes, breakpoint_bytes, flags_bytes, record_bytes, look_bytes};
 ghost use Rattle.replay.specs.Written.{Room, Wrote, Written};
 
@@ -14,9 +12,11 @@ use gate::profile::{Profile, ProfileMode};
 use stage::Stage;
 use wave::phases::MotorKind;
 
-// How many bytes a look takes, with the byte that says so.
+// How many bytes a look takes, with the byte that says so. A look is written whole or not at all: its room is asked for once, and each
+// part requires its own.
 const LOOK: usize = 147;
 
+// The bytes are this crate's format, which the crates of these cases need not know; so they are matched here, and below.
 fn mode_byte(mode: ProfileMode) -> u8
     ensures { result ≡ mode_byte mode }
 {
@@ -115,26 +115,15 @@ fn put_record(out: &mut Out<'_>, gate: &Gate)
     put_flags(out, gate);
 }
 
-fn record_of<S: Stage + Drop>(board: &Board<S>, gate: u8) -> Gate
-    requires { is_gate gate ≡ true }
-    ensures { result ≡ gate_of (state_of board.now.table) (gate - 1) }
-{
-    match board.record(gate) {
-        Some(record) => record,
-        None => unreachable(),
-    }
-}
-
 // Writes the pairs and the records of a board.
 pub fn put_look<S: Stage + Drop>(out: &mut Out<'_>, board: &Board<S>) -> Result<(), Fault>
-    requires { Room out.old 0 }
     ensures { Written out.old out.new (look_bytes S.Stage board.now) result }
 {
     out.room(LOOK)?;
     out.put(&[0x13]);
     put_pair(out, board.pair(1));
     put_pair(out, board.pair(2));
-    put_record(out, &record_of(board, 1));
-    put_record(out, &record_of(board, 2));
+    put_record(out, &board.record(1).unwrap());
+    put_record(out, &board.record(2).unwrap());
     Ok(())
 }

@@ -1,17 +1,20 @@
-ghost use Rattle.std.specs.Prelude.{◌≡◌, ◌+◌, ◌<◌, length, MatchResult};
-ghost use Rattle.replay.specs.declared.fault.Fault.TheVariants.{NoRoom};
-ghost use Rattle.replay.specs.Written.{Room, Wrote, Written};
+ghost use Rattle.std.specs.Prelude.{◌≡◌, ◌+◌, ◌<◌, ◌≤◌, length, MatchResult};
 
 use crate::fault::Fault;
 
-// Writes answers into `bytes`, one behind the other; `len` is the place behind the last one.
+// Writes answers into `bytes`, one behind the other; `len` is the place behind the last one. It stands beside the slice since std's
+// writer, which shrinks its slice instead, promises nothing of what the whole slice ends as.
 #[derive(Drop)]
 pub struct Out<'a> {
     pub(crate) bytes: &'a mut [u8],
     pub(crate) len: usize,
+    ghost within: { len ≤ length bytes.now },
 }
 
 impl Out<'_> {
+    ghost use Rattle.replay.specs.declared.fault.Fault.TheVariants.{NoRoom};
+    ghost use Rattle.replay.specs.Written.{Room, Wrote, Written};
+
     // Writes bytes that there is room for.
     pub(crate) fn put(&mut self, more: &[u8])
         requires { Room self.old (length more.now) }
@@ -25,7 +28,6 @@ impl Out<'_> {
 
     // Whether there is room for so many bytes.
     pub(crate) fn room(&self, count: usize) -> Result<(), Fault>
-        requires { Room self.now 0 }
         ensures { MatchResult result (λ _. Room self.now count) (λ f. (f ≡ NoRoom) × (length self.now.bytes.now < self.now.len + count)) }
     {
         if self.bytes.len() - self.len < count {
@@ -36,7 +38,6 @@ impl Out<'_> {
 
     // Writes a whole answer, or nothing.
     pub fn write(&mut self, answer: &[u8]) -> Result<(), Fault>
-        requires { Room self.old 0 }
         ensures { Written self.old self.new answer.now result }
     {
         self.room(answer.len())?;

@@ -1,27 +1,27 @@
-use Rattle.std.proofs.Common.{sym, ◌∙◌}
-use Rattle.replay.proofs.Frame.{framed, frame_size, follows}
+use Rattle.std.proofs.Common.{length, subst, arith, rules}
+use Rattle.std.proofs.Math.Nat.{sub-zero}
+use Rattle.replay.specs.Replays.{Ended}
 use Rattle.replay.proofs.replay.Goals as goal
 
 pub returns : goal.returns
 returns g c =
-    let out = c.args.bytes.now in
-    let p = c.play_list-played.new.out in
-    let k = c.play_list-played.ensures in
-    let head = c.copy_from_slice.ensures.after ∙ c.to_be_bytes.ensures in
-    let lent = sym k.3.lent in
-    let size = frame_size out p.bytes.now c.copy_from_slice.new.self k.1 p.len c.requires head k.3.size in
-    let said = framed out p.bytes.now c.copy_from_slice.new.self k.1 p.len c.requires head k.3.len k.3.said in
-    let follow = follows lent in
-    record {
-      board_a = c.new-a.result.board;
-      board_b = c.new-b.result.board;
-      new_a = c.new-a.ensures;
-      new_b = c.new-b.ensures;
-      last_a = c.play_list-played.new.a.board;
-      last_b = c.play_list-played.new.b.board;
-      entries = k.0;
-      bytes = k.1;
-      ended = k.2;
-      size = search (size, follow);
-      said = search (said, follow);
-    }
+    let k = c.play-played.ensures in
+    let boards = c.new-boards.result in
+    let first = c.new-boards.ensures in
+    let last = c.play-played.new.self in
+    let out = c.play-played.new.out in (
+      k.1,
+      record {
+        board_a = boards.a.board;
+        board_b = boards.b.board;
+        new_a = first.a;
+        new_b = first.b;
+        last_a = last.a.board;
+        last_b = last.b.board;
+        steps = k.0;
+        ended = subst (λ n. Ended g.S.Stage g.R.Stage c.args.list.now boards.a.board boards.b.board c.play-played.result k.0 last.a.board last.b.board k.1 n) (sub-zero (length c.args.room.now)) k.2;
+      },
+      search rules,
+      omega (arith, k.3.len),
+      search rules,
+    )

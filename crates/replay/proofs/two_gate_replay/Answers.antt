@@ -1,11 +1,25 @@
-use Rattle.std.proofs.Common.{Ok, Err, refl, inl, inr}
+use Rattle.std.proofs.Common.{◌≡◌, ◌+◌, Ok, Err, inr, refl, arith}
+use denote.Enum.Declared.{tag_of}
+use Rattle.replay.specs.contracts.fault.Fault.{the_type}
+use Rattle.replay.specs.declared.fault.Fault.{Fault}
+use Rattle.replay.specs.declared.fault.Fault.TheVariants.{Unknown, CutShort, Operand, NoRoom}
+use Rattle.replay.specs.Faults.{number}
+use Rattle.replay.specs.Returns.{stage_a, stage_b}
+use Rattle.replay.proofs.Frame.{framed}
 use Rattle.replay.proofs.two_gate_replay.Goals as goal
 
-pub returns-then-out-lt8 : goal.returns-then-out-lt8
-returns-then-out-lt8 c = inl (c.if-out-lt8.true, c.number.ensures, refl)
+numbered : (f : Fault) → tag_of the_type f + 1 ≡ number f
+numbered Unknown = refl
+numbered CutShort = refl
+numbered Operand = refl
+numbered NoRoom = refl
 
 pub returns-in-Ok : goal.returns-in-Ok
-returns-in-Ok c = inr (c.if-out-lt8.false, (Ok c.in-Ok.field-0, refl, c.in-Ok.ensures))
+returns-in-Ok c =
+    let size = c.in-Some.ensures.cases.2 in
+    inr (omega (arith, size), (Ok tt, refl, framed stage_a stage_b c.args.list.now c.args.out.now _ _ _ _ _ _ size c.to_be_bytes.ensures c.in-Ok.is c.replay-count.ensures))
 
 pub returns-in-Err : goal.returns-in-Err
-returns-in-Err c = inr (c.if-out-lt8.false, (Err c.in-Err.fault, c.number-in-Err.ensures, c.in-Err.ensures))
+returns-in-Err c =
+    let size = c.in-Some.ensures.cases.2 in
+    inr (omega (arith, size), (Err c.in-Err.fault, numbered c.in-Err.fault, framed stage_a stage_b c.args.list.now c.args.out.now _ _ _ _ _ _ size c.to_be_bytes.ensures c.in-Err.is c.replay-count.ensures))

@@ -1,0 +1,78 @@
+ghost use Rattle.std.specs.Prelude.{[]};
+ghost use Rattle.board.specs.Runs.{Came};
+ghost use Rattle.replay.specs.Replays.{Turned, Replayed};
+
+use crate::entry::{Entry, Step};
+use crate::fault::Fault;
+use crate::out::Out;
+use crate::play::play;
+use desk::desk::Desk;
+use desk::side::Side;
+use stage::Stage;
+
+// The two boards that a list is played against, each at its desk. The slips that are left when they go are closed. A script's boards keep
+// the one that a line goes to besides; an entry of a list names its own.
+pub struct Boards<S: Stage + Drop, R: Stage + Drop> {
+    pub a: Desk<S>,
+    pub b: Desk<R>,
+}
+
+impl<S: Stage + Drop, R: Stage + Drop> Drop for Boards<S, R> {
+    // Closes the slips that are left.
+    fn drop(self) {
+        let Boards { a, b } = self;
+        let _ = a.finish();
+        let _ = b.finish();
+    }
+}
+
+// Plays an entry at its own board and writes its answer.
+fn turn<S: Stage + Drop, R: Stage + Drop>(
+    own: &mut Desk<S>,
+    other: &mut Desk<R>,
+    entry: Entry,
+    out: &mut Out<'_>,
+) -> Result<(), Fault>
+    ensures { Turned S.Stage R.Stage Side.A entry own.old.board own.new.board other.old.board other.new.board out.old out.new result }
+{
+    match play(own, other, entry) {
+        Ok(answer) => answer.put(own.board(), out),
+        Err(refusal) => out.write(&[refusal.number()]),
+    }
+}
+
+impl<S: Stage + Drop, R: Stage + Drop> Boards<S, R> {
+    // Two new boards.
+    pub fn new(one: S, two: R) -> Boards<S, R>
+        ensures a { Came S.Stage [] result.a.board }
+        ensures b { Came R.Stage [] result.b.board }
+    {
+        Boards {
+            a: Desk::new(one),
+            b: Desk::new(two),
+        }
+    }
+
+    // Plays a step at its board and writes its answer.
+    fn turn(&mut self, step: Step, out: &mut Out<'_>) -> Result<(), Fault>
+        ensures { Turned S.Stage R.Stage step.side step.entry self.old.a.board self.new.a.board self.old.b.board self.new.b.board out.old out.new result }
+    {
+        match step.side {
+            Side::A => turn(&mut self.a, &mut self.b, step.entry, out),
+            Side::B => turn(&mut self.b, &mut self.a, step.entry, out),
+        }
+    }
+
+    // Plays the entries of a list, one after another, and writes their answers.
+    pub fn play(&mut self, list: &[u8], out: &mut Out<'_>) -> Result<(), Fault>
+        ensures { Replayed S.Stage R.Stage list.now self.old.a.board self.old.b.board self.new.a.board self.new.b.board out.old out.new result }
+    {
+        let mut rest = list;
+        while let [first, operands @ ..] = rest {
+            let (step, behind) = Step::read(*first, operands)?;
+            self.turn(step, out)?;
+            rest = behind;
+        }
+        Ok(())
+    }
+}
