@@ -2,9 +2,7 @@
 #![tactic(auto)]
 
 use host::console;
-use std::env;
 
 fn main(rt: HostRuntime) -> anyhow::Result<()> {
-    let words: Vec<String> = env::args(&rt)?.skip(1).collect(rt.alloc())?;
-    console::run(&rt, words.as_slice())
+    console::run(&rt)
 }

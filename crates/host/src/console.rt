@@ -1,117 +1,106 @@
-use crate::makes::{Make, makes_from};
+use crate::makes::{Make, Makes};
 use crate::report::show_lots;
 use crate::session::play_script;
 use crate::tasks::{show_move, show_windings};
-use anyhow::anyhow;
+use anyhow::{anyhow, ensure};
 use desk::desk::Desk;
 use script::boards::Boards;
 use stage::Stage;
 use stage::dac::Dac;
 use stage::pwm::Pwm;
-use std::{fs, io};
+use std::{env, fs, io};
 
 const USAGE: &str =
     "the arguments are: [--stages A,B] [FILE], where A and B are dac or pwm and FILE is a script, or - for standard input; --move DESTINATION VELOCITY ACCELERATION [POWER]; or --windings [KIND [POWER]]";
 
-const MAKES: (Make, Make) = (Make::Dac, Make::Pwm);
+const MAKES: Makes = Makes {
+    a: Make::Dac,
+    b: Make::Pwm,
+};
 
-// Plays a script on two new boards.
-fn play_on<S: Stage + Drop, R: Stage + Drop>(
-    rt: &HostRuntime,
-    a: S,
-    b: R,
-    script: &str,
-) -> anyhow::Result<()> {
-    let mut boards = Boards::new(a, b);
-    let played = play_script(rt, &mut boards, script);
-    boards.finish();
-    let faults = played?;
-    if faults > 0 {
-        return Err(anyhow!("some lines could not be read"));
-    }
-    Ok(())
+// What is done on two new boards, whatever the makes of their stages.
+trait Task {
+    fn work<S: Stage + Drop, R: Stage + Drop>(
+        self,
+        rt: &HostRuntime,
+        a: S,
+        b: R,
+    ) -> anyhow::Result<()>;
 }
 
-// Works the built-in task on two new boards.
-fn show_on<S: Stage + Drop, R: Stage + Drop>(
-    rt: &HostRuntime,
-    makes: (Make, Make),
-    a: S,
-    b: R,
-) -> anyhow::Result<()> {
-    let mut a = Desk::new(a);
-    let mut b = Desk::new(b);
-    let shown = show_lots(rt, makes, &mut a, &mut b);
-    let _a = a.finish();
-    let _b = b.finish();
-    shown
-}
-
-// What is done on the boards.
+// Plays a script.
 #[derive(Clone, Copy)]
-enum Task {
-    Script,
-    Lots,
-}
+struct Script<'a>(&'a str);
 
-fn work_on<S: Stage + Drop, R: Stage + Drop>(
-    rt: &HostRuntime,
-    makes: (Make, Make),
-    a: S,
-    b: R,
-    task: Task,
-    script: &str,
-) -> anyhow::Result<()> {
-    match task {
-        Task::Script => play_on(rt, a, b, script),
-        Task::Lots => show_on(rt, makes, a, b),
+impl Task for Script<'_> {
+    fn work<S: Stage + Drop, R: Stage + Drop>(
+        self,
+        rt: &HostRuntime,
+        a: S,
+        b: R,
+    ) -> anyhow::Result<()> {
+        let mut boards = Boards::new(a, b);
+        let played = play_script(rt, &mut boards, self.0);
+        boards.finish();
+        ensure!(played? == 0, "some lines could not be read");
+        Ok(())
     }
 }
 
-fn on_stages(
-    rt: &HostRuntime,
-    makes: (Make, Make),
-    task: Task,
-    script: &str,
-) -> anyhow::Result<()> {
-    match makes {
-        (Make::Dac, Make::Dac) => work_on(rt, makes, Dac::new(), Dac::new(), task, script),
-        (Make::Dac, Make::Pwm) => work_on(rt, makes, Dac::new(), Pwm::new(), task, script),
-        (Make::Pwm, Make::Dac) => work_on(rt, makes, Pwm::new(), Dac::new(), task, script),
-        (Make::Pwm, Make::Pwm) => work_on(rt, makes, Pwm::new(), Pwm::new(), task, script),
+// Works lots through both gates; the makes are printed.
+#[derive(Clone, Copy)]
+struct Lots(Makes);
+
+impl Task for Lots {
+    fn work<S: Stage + Drop, R: Stage + Drop>(
+        self,
+        rt: &HostRuntime,
+        a: S,
+        b: R,
+    ) -> anyhow::Result<()> {
+        let mut a = Desk::new(a);
+        let mut b = Desk::new(b);
+        let shown = show_lots(rt, self.0, &mut a, &mut b);
+        let _a = a.finish();
+        let _b = b.finish();
+        shown
+    }
+}
+
+// Each pair of makes is a type of its own, so there is a call for each.
+fn on_stages<T: Task>(rt: &HostRuntime, makes: Makes, task: T) -> anyhow::Result<()> {
+    match (makes.a, makes.b) {
+        (Make::Dac, Make::Dac) => task.work(rt, Dac::new(), Dac::new()),
+        (Make::Dac, Make::Pwm) => task.work(rt, Dac::new(), Pwm::new()),
+        (Make::Pwm, Make::Dac) => task.work(rt, Pwm::new(), Dac::new()),
+        (Make::Pwm, Make::Pwm) => task.work(rt, Pwm::new(), Pwm::new()),
     }
 }
 
 // The script on standard input, or the built-in task where it is empty.
-fn from_input(rt: &HostRuntime, makes: (Make, Make)) -> anyhow::Result<()> {
+fn from_input(rt: &HostRuntime, makes: Makes) -> anyhow::Result<()> {
     let text = io::read_to_string(rt.alloc(), rt.stdin())?;
     let script = text.as_str();
-    let task = if script.trim().is_empty() {
-        Task::Lots
+    if script.trim().is_empty() {
+        on_stages(rt, makes, Lots(makes))
     } else {
-        Task::Script
-    };
-    on_stages(rt, makes, task, script)
+        on_stages(rt, makes, Script(script))
+    }
 }
 
-fn from_file(rt: &HostRuntime, makes: (Make, Make), path: &str) -> anyhow::Result<()> {
+fn from_file(rt: &HostRuntime, makes: Makes, path: &str) -> anyhow::Result<()> {
     let text = fs::read_to_string(rt, path)?;
-    on_stages(rt, makes, Task::Script, text.as_str())
+    on_stages(rt, makes, Script(text.as_str()))
 }
 
-fn with_makes(rt: &HostRuntime, makes: (Make, Make), words: &[String]) -> anyhow::Result<()> {
+fn with_makes(rt: &HostRuntime, makes: Makes, words: &[String]) -> anyhow::Result<()> {
     match words {
         [] => from_input(rt, makes),
-        [file] => {
-            let path = file.as_str();
-            if path == "-" {
-                from_input(rt, makes)
-            } else if path.starts_with("--") {
-                Err(anyhow!("{USAGE}"))
-            } else {
-                from_file(rt, makes, path)
-            }
-        }
+        [file] => match file.as_str() {
+            "-" => from_input(rt, makes),
+            option if option.starts_with("--") => Err(anyhow!("{USAGE}")),
+            path => from_file(rt, makes, path),
+        },
         _ => Err(anyhow!("{USAGE}")),
     }
 }
@@ -121,14 +110,11 @@ fn with_stages(rt: &HostRuntime, words: &[String]) -> anyhow::Result<()> {
     let [names, rest @ ..] = words else {
         return Err(anyhow!("{USAGE}"));
     };
-    match makes_from(names.as_str()) {
-        Some(makes) => with_makes(rt, makes, rest),
-        None => Err(anyhow!("{USAGE}")),
-    }
+    let makes = names.as_str().parse().map_err(|_| anyhow!("{USAGE}"))?;
+    with_makes(rt, makes, rest)
 }
 
-// The console's task, by its arguments.
-pub fn run(rt: &HostRuntime, words: &[String]) -> anyhow::Result<()> {
+fn with_words(rt: &HostRuntime, words: &[String]) -> anyhow::Result<()> {
     let [option, rest @ ..] = words else {
         return with_makes(rt, MAKES, words);
     };
@@ -138,4 +124,10 @@ pub fn run(rt: &HostRuntime, words: &[String]) -> anyhow::Result<()> {
         "--windings" => show_windings(rt, rest),
         _ => with_makes(rt, MAKES, words),
     }
+}
+
+// The console's task, by its arguments.
+pub fn run(rt: &HostRuntime) -> anyhow::Result<()> {
+    let words: Vec<String> = env::args(rt)?.skip(1).collect(rt.alloc())?;
+    with_words(rt, words.as_slice())
 }

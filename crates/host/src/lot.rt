@@ -1,8 +1,9 @@
 use gate::gate::Gate;
+use motion::course::MICROSTEP;
 use std::fmt;
 
 // A lot of olives: where its gate is sent, and the time at which the gate sets off.
-#[derive(Clone, Copy)]
+#[derive(Clone, Copy, Debug, PartialEq, Eq)]
 pub struct Lot {
     pub destination: i32,
     pub velocity: u32,
@@ -56,7 +57,7 @@ pub const RIGHT: [Lot; 3] = [
 ];
 
 // What became of a lot.
-#[derive(Clone, Copy)]
+#[derive(Clone, Copy, Debug, PartialEq, Eq)]
 pub struct Outcome {
     pub lot: Lot,
     // the first cycle in which the gate moved, and the one in which it came to rest again
@@ -77,22 +78,26 @@ impl Outcome {
 
     // Notes what a cycle did to the gate.
     pub fn note(&mut self, gate: Gate) {
-        let moves = gate.motion.velocity != 0;
-        if moves && self.set_off.is_none() {
-            self.set_off = Some(gate.clock.time());
+        let now = gate.clock.time();
+        if gate.motion.velocity != 0 {
+            self.set_off.get_or_insert(now);
+        } else if self.set_off.is_some() {
+            self.arrived.get_or_insert(now);
         }
-        if !moves && self.set_off.is_some() && self.arrived.is_none() {
-            self.arrived = Some(gate.clock.time());
-        }
-        self.target = gate.motion.target.div_euclid(65_536);
+        self.target = gate.motion.target.div_euclid(MICROSTEP);
     }
 }
 
-// A cycle's number, or a dash.
-fn show_cycle<W: fmt::Write>(f: &mut fmt::Formatter<W>, cycle: Option<u32>) -> fmt::Result {
-    match cycle {
-        Some(number) => write!(f, "{number:>8}"),
-        None => write!(f, "{:>8}", "-"),
+// The number of a cycle, or a dash where there is none.
+#[derive(Clone, Copy)]
+struct Cycle(Option<u32>);
+
+impl fmt::Display for Cycle {
+    fn fmt<W: fmt::Write>(&self, f: &mut fmt::Formatter<W>) -> fmt::Result {
+        match self.0 {
+            Some(number) => number.fmt(f),
+            None => f.pad("-"),
+        }
     }
 }
 
@@ -106,14 +111,11 @@ impl fmt::Display for Outcome {
             acceleration,
             start,
         } = self.lot;
+        let (set_off, arrived) = (Cycle(self.set_off), Cycle(self.arrived));
+        let target = self.target;
         write!(
             f,
-            "{destination:>11}  {velocity:>8}  {acceleration:>12}  {start:>7}"
-        )?;
-        show_cycle(f, self.set_off)?;
-        f.write_str(" ")?;
-        show_cycle(f, self.arrived)?;
-        let target = self.target;
-        write!(f, "  {target:>8}")
+            "{destination:>11}  {velocity:>8}  {acceleration:>12}  {start:>7}{set_off:>8} {arrived:>8}  {target:>8}"
+        )
     }
 }

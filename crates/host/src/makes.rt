@@ -1,4 +1,10 @@
-ghost use Rattle.host.specs.Makes.{Names, Both};
+ghost use Rattle.std.specs.Prelude.{Some};
+ghost use Rattle.std.specs.Result.{result_ok};
+ghost use Rattle.host.specs.Makes.{Both, Names, name_of, pair_of};
+
+use std::fmt;
+use std::str::FromStr;
+use thiserror::Error;
 
 // The makes of output stage that a console can set its boards on.
 #[derive(Clone, Copy, Debug, PartialEq, Eq)]
@@ -7,29 +13,54 @@ pub enum Make {
     Pwm,
 }
 
-fn make_from(word: &str) -> Option<Make>
-    ensures { Names word.now result }
-{
-    match word {
-        "dac" => Some(Make::Dac),
-        "pwm" => Some(Make::Pwm),
-        _ => None,
-    }
+// The makes of board a and board b.
+#[derive(Clone, Copy, Debug, PartialEq, Eq)]
+pub struct Makes {
+    pub a: Make,
+    pub b: Make,
 }
 
-impl Make {
-    pub fn name(self) -> &'static str {
-        match self {
-            Make::Dac => "dac",
-            Make::Pwm => "pwm",
+// A word that names no make, or words that name no two.
+#[derive(Clone, Copy, Debug, PartialEq, Eq, Error)]
+#[error("a make is dac or pwm")]
+pub struct Unnamed;
+
+impl FromStr for Make {
+    type Err = Unnamed;
+
+    ghost from_str_gives = { λ word r. Names word (result_ok r) };
+
+    fn from_str(word: &str) -> Result<Make, Unnamed> {
+        match word {
+            "dac" => Ok(Make::Dac),
+            "pwm" => Ok(Make::Pwm),
+            _ => Err(Unnamed),
         }
     }
 }
 
-// The makes of board a and board b, from their names with a comma between.
-pub fn makes_from(text: &str) -> Option<(Make, Make)>
-    ensures { Both text.now result }
-{
-    let (a, b) = text.split_once(',')?;
-    Some((make_from(a)?, make_from(b)?))
+impl fmt::Display for Make {
+    ghost output = { λ make. Some (name_of make) };
+
+    fn fmt<W: fmt::Write>(&self, f: &mut fmt::Formatter<W>) -> fmt::Result {
+        f.write_str(match self {
+            Make::Dac => "dac",
+            Make::Pwm => "pwm",
+        })
+    }
+}
+
+// Two makes are written with a comma between.
+impl FromStr for Makes {
+    type Err = Unnamed;
+
+    ghost from_str_gives = { λ text r. Both text (pair_of r) };
+
+    fn from_str(text: &str) -> Result<Makes, Unnamed> {
+        let (a, b) = text.split_once(',').ok_or(Unnamed)?;
+        Ok(Makes {
+            a: a.parse()?,
+            b: b.parse()?,
+        })
+    }
 }

@@ -1,8 +1,9 @@
-use crate::lot::HEADING;
+use crate::lot::{HEADING, LEFT, RIGHT};
 use crate::lots::{Work, work_lots};
-use crate::makes::Make;
+use crate::makes::Makes;
 use board::board::Board;
 use board::board::compare::compare;
+use board::refusal::Refusal;
 use desk::desk::Desk;
 use script::reply::Reply;
 use stage::Stage;
@@ -16,14 +17,8 @@ fn show_work(rt: &HostRuntime, gate: u8, work: &Work) -> anyhow::Result<()> {
 }
 
 // How many answers of two lists are equal, place by place.
-fn alike(left: &[Reply], right: &[Reply]) -> usize {
-    let mut count = 0usize;
-    for (a, b) in left.iter().zip(right.iter()) {
-        if *a == *b {
-            count = count.saturating_add(1);
-        }
-    }
-    count
+fn alike(left: &[Result<Reply, Refusal>], right: &[Result<Reply, Refusal>]) -> usize {
+    left.iter().zip(right).filter(|(a, b)| **a == **b).count()
 }
 
 // What one gate has in common on two boards.
@@ -44,13 +39,13 @@ fn show_comparison<S: Stage + Drop, R: Stage + Drop>(
 // Works lots through both gates of board a, then those of the left gate alone on board b, and compares the boards.
 pub fn show_lots<S: Stage + Drop, R: Stage + Drop>(
     rt: &HostRuntime,
-    makes: (Make, Make),
+    makes: Makes,
     a: &mut Desk<S>,
     b: &mut Desk<R>,
 ) -> anyhow::Result<()> {
-    let (left, right) = work_lots(rt.alloc(), a, true)?;
-    let (again, _idle) = work_lots(rt.alloc(), b, false)?;
-    let (first, second) = (makes.0.name(), makes.1.name());
+    let (left, right) = work_lots(rt.alloc(), a, &LEFT, Some(&RIGHT))?;
+    let (again, _idle) = work_lots(rt.alloc(), b, &LEFT, None)?;
+    let (first, second) = (makes.a, makes.b);
     println!(rt; "board a, over {first}: lots through both gates")?;
     show_work(rt, 1, &left)?;
     show_work(rt, 2, &right)?;

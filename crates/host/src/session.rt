@@ -1,14 +1,13 @@
 use script::boards::Boards;
 use script::line::Line;
+use script::reply::Answer;
 use stage::Stage;
 use std::alloc::Global;
 
 // A line of a script without its comment.
 fn uncommented(line: &str) -> &str {
-    match line.split_once('#') {
-        Some((before, _comment)) => before,
-        None => line,
-    }
+    line.split_once('#')
+        .map_or(line, |(before, _comment)| before)
 }
 
 // Plays one line, and prints its answer; false if it cannot be read.
@@ -19,10 +18,10 @@ fn play_line<S: Stage + Drop, R: Stage + Drop>(
     text: &str,
 ) -> anyhow::Result<bool> {
     let words: Vec<&str> = uncommented(text).split_whitespace().collect(rt.alloc())?;
-    match Line::read(words.as_slice()) {
+    match Line::try_from(words.as_slice()) {
         Ok(line) => {
-            if let Some(reply) = boards.play(line) {
-                rt.println(reply)?;
+            if let Some(answer) = boards.play(line).transpose() {
+                rt.println(Answer(answer))?;
             }
             Ok(true)
         }
@@ -39,12 +38,11 @@ pub fn play_script<S: Stage + Drop, R: Stage + Drop>(
     boards: &mut Boards<S, R>,
     script: &str,
 ) -> anyhow::Result<usize> {
-    let mut number = 0usize;
+    // Counted in the loop: a fold that may fail would hide the printing of a line in a closure.
     let mut faults = 0usize;
-    for line in script.lines() {
-        number = number.saturating_add(1);
-        if !play_line(rt, boards, number, line)? {
-            faults = faults.saturating_add(1);
+    for (index, line) in script.lines().enumerate() {
+        if !play_line(rt, boards, index + 1, line)? {
+            faults += 1;
         }
     }
     Ok(faults)

@@ -1,5 +1,5 @@
 -- What the words of a plan are taken for, and which plans a gate takes.
-use Rattle.std.specs.Prelude.{◌≡◌, ℕ, ◌^◌, ◌<◌, Bool, true, false, not, ◌&&◌, List, ℤ, Some, None, Ok, Err, Option, Result, FitsSigned, ◌==◌, nat_le, nat_lt, unsigned_abs}
+use Rattle.std.specs.Prelude.{◌≡◌, ℕ, ◌^◌, ◌<◌, Bool, true, false, not, ◌&&◌, List, [], ◌∷◌, codes, ℤ, Some, None, Ok, Err, Option, Result, FitsSigned, ◌==◌, nat_le, nat_lt, unsigned_abs}
 use Rattle.std.specs.Int.{w32}
 use Rattle.std.specs.Str.Parse.{IsNumeral, digits_value, without_leading_plus, without_leading_sign, signed_digits_value}
 use Rattle.gate.specs.declared.gate.Gate.{Gate}
@@ -34,6 +34,12 @@ Read d v a p (Err Velocity) = IsSigned d × Unsigned 32 v None
 Read d v a p (Err Acceleration) = IsSigned d × IsUnsigned 32 v × Signed a None
 Read d v a p (Err Power) = IsSigned d × IsUnsigned 32 v × IsSigned a × Unsigned 16 p None
 Read d v a p (Err Count) = ⊥
+
+-- what the words of a move are read as: three, or four where they name a power
+abbrev pub Written : List (List ℕ) → Result Plan Fault → Type 0
+Written (d ∷ (v ∷ (a ∷ []))) r = Read d v a (codes "16384") r
+Written (d ∷ (v ∷ (a ∷ (p ∷ [])))) r = Read d v a p r
+Written words r = r ≡ Err Count
 
 -- the numbers that a gate takes
 abbrev pub good_destination : Plan → Bool

@@ -1,68 +1,54 @@
-ghost use Rattle.std.specs.Prelude.{◌≡◌, Ok, Err};
+ghost use Rattle.std.specs.Prelude.{◌≡◌, ℕ, Ok, Err, OnOk};
 ghost use Rattle.gate.specs.Cycles.{cycled};
 ghost use Rattle.gate.specs.Laws.{Paced};
 ghost use Rattle.gate.specs.Sound.{Sound};
 ghost use Rattle.travel.specs.Plans.{Sent, Faulty};
+ghost use Rattle.travel.specs.Runs.{Ends, Ran};
 ghost use Rattle.travel.specs.Rows.{idle, Shown};
 
 use crate::plan::{Fault, Plan};
-use crate::row::Row;
+use crate::row::{HEADING, Row};
 use gate::gate::Gate;
 use gate::inputs::Inputs;
 use gate::orders::{LongOrder, Order, WordOrder};
 use motion::course::whole_steps;
+use std::io;
 
-// No count comes, and no switch is active.
-const IDLE: Inputs = Inputs {
-    count: 0,
-    positive: false,
-    negative: false,
-    home: false,
-};
+// The most cycles that a move is followed for.
+const CYCLES: u32 = 10_000;
 
 // One gate under way.
 #[derive(Drop)]
 pub struct Journey {
     gate: Gate,
+    ghost sound: { Sound gate },
 }
 
 impl Journey {
     // A fresh gate that has taken the plan, and is at rest at 0.
     pub fn new(plan: Plan) -> Result<Journey, Fault>
-        ensures taken { elim result [ Ok j ↦ Sent plan j.gate | Err f ↦ Faulty plan f ] }
-        ensures sound { elim result [ Ok j ↦ Sound j.gate | Err f ↦ Unit {0} ] }
+        ensures { elim result [ Ok j ↦ Sent plan j.gate | Err f ↦ Faulty plan f ] }
     {
         let mut gate = Gate::fresh(false);
-        let destination = plan.destination.cast_unsigned();
-        if gate.run_long(LongOrder::Destination, destination).is_err() {
-            return Err(Fault::Destination);
-        }
-        if gate.run_long(LongOrder::Velocity, plan.velocity).is_err() {
-            return Err(Fault::Velocity);
-        }
-        let acceleration = plan.acceleration.cast_unsigned();
-        if gate
-            .run_long(LongOrder::Acceleration, acceleration)
-            .is_err()
-        {
-            return Err(Fault::Acceleration);
-        }
-        if gate.run_word(WordOrder::BufferedPower, plan.power).is_err() {
-            return Err(Fault::Power);
-        }
+        gate.run_long(LongOrder::Destination, plan.destination.cast_unsigned())
+            .or(Err(Fault::Destination))?;
+        gate.run_long(LongOrder::Velocity, plan.velocity)
+            .or(Err(Fault::Velocity))?;
+        gate.run_long(LongOrder::Acceleration, plan.acceleration.cast_unsigned())
+            .or(Err(Fault::Acceleration))?;
+        gate.run_word(WordOrder::BufferedPower, plan.power)
+            .or(Err(Fault::Power))?;
         gate.run(Order::Update);
         Ok(Journey { gate })
     }
 
     // The gate after one more cycle.
     pub fn step(&mut self) -> Row
-        requires { Sound self.old.gate }
         ensures goes { self.new.gate ≡ cycled idle self.old.gate }
-        ensures sound { Sound self.new.gate }
         ensures paced { Paced self.old.gate self.new.gate }
         ensures shown { Shown self.new.gate result }
     {
-        let phases = self.gate.cycle(IDLE);
+        let phases = self.gate.cycle(Inputs::STILL);
         Row {
             cycle: self.gate.clock.time(),
             velocity: self.gate.motion.velocity,
@@ -71,5 +57,20 @@ impl Journey {
             complete: self.gate.events.complete,
             moving: !self.gate.at_rest(),
         }
+    }
+
+    // Prints a line for each cycle, to the first in which the gate is at rest or to the last that it is followed for.
+    pub fn show(&mut self, rt: &impl Print) -> io::Result<()>
+        ensures { (n : ℕ) × Ran n self.old.gate self.new.gate × OnOk result (Ends n self.new.gate) }
+    {
+        rt.println(HEADING)?;
+        for _cycle in 0..CYCLES {
+            let row = self.step();
+            rt.println(row)?;
+            if !row.moving {
+                return Ok(());
+            }
+        }
+        println!(rt; "still moving after {CYCLES} cycles")
     }
 }

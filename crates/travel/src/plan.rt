@@ -1,10 +1,10 @@
-ghost use Rattle.travel.specs.Plans.{Signed, Unsigned, Read};
+ghost use Rattle.std.specs.Prelude.{map, string_bytes};
+ghost use Rattle.travel.specs.Plans.{Read, Written};
 
-use std::error::Error;
-use std::fmt;
+use thiserror::Error;
 
 // Where a gate is sent, and how.
-#[derive(Clone, Copy)]
+#[derive(Clone, Copy, Debug, PartialEq, Eq)]
 pub struct Plan {
     // in microsteps
     pub destination: i32,
@@ -16,58 +16,18 @@ pub struct Plan {
 }
 
 // What is wrong with a plan.
-#[derive(Clone, Copy, Debug, PartialEq, Eq)]
+#[derive(Clone, Copy, Debug, PartialEq, Eq, Error)]
 pub enum Fault {
+    #[error("the destination is a whole number from -1073741824 to 1073741823")]
     Destination,
+    #[error("the velocity is a whole number from 0 to 1073741823")]
     Velocity,
+    #[error("the acceleration is a whole number from -1073741824 to 1073741823, and not 0")]
     Acceleration,
+    #[error("the power is a whole number from 0 to 32767")]
     Power,
+    #[error("a move takes a destination, a velocity, an acceleration and, if wanted, a power")]
     Count,
-}
-
-impl fmt::Display for Fault {
-    fn fmt<W: fmt::Write>(&self, f: &mut fmt::Formatter<W>) -> fmt::Result {
-        f.write_str(match self {
-            Fault::Destination =>
-                "the destination is a whole number from -1073741824 to 1073741823",
-            Fault::Velocity => "the velocity is a whole number from 0 to 1073741823",
-            Fault::Acceleration =>
-                "the acceleration is a whole number from -1073741824 to 1073741823, and not 0",
-            Fault::Power => "the power is a whole number from 0 to 32767",
-            Fault::Count =>
-                "a move takes a destination, a velocity, an acceleration and, if wanted, a power",
-        })
-    }
-}
-
-impl Error for Fault {}
-
-// The number of 32 bits that a word writes.
-fn signed_from(word: &str) -> Option<i32>
-    ensures { Signed word.now result }
-{
-    match word.parse::<i32>() {
-        Ok(number) => Some(number),
-        Err(_) => None,
-    }
-}
-
-fn velocity_from(word: &str) -> Option<u32>
-    ensures { Unsigned 32 word.now result }
-{
-    match word.parse::<u32>() {
-        Ok(number) => Some(number),
-        Err(_) => None,
-    }
-}
-
-fn power_from(word: &str) -> Option<u16>
-    ensures { Unsigned 16 word.now result }
-{
-    match word.parse::<u16>() {
-        Ok(number) => Some(number),
-        Err(_) => None,
-    }
 }
 
 impl Plan {
@@ -80,23 +40,29 @@ impl Plan {
     ) -> Result<Plan, Fault>
         ensures { Read destination.now velocity.now acceleration.now power.now result }
     {
-        let Some(destination) = signed_from(destination) else {
-            return Err(Fault::Destination);
-        };
-        let Some(velocity) = velocity_from(velocity) else {
-            return Err(Fault::Velocity);
-        };
-        let Some(acceleration) = signed_from(acceleration) else {
-            return Err(Fault::Acceleration);
-        };
-        let Some(power) = power_from(power) else {
-            return Err(Fault::Power);
-        };
         Ok(Plan {
-            destination,
-            velocity,
-            acceleration,
-            power,
+            destination: destination.parse().map_err(|_| Fault::Destination)?,
+            velocity: velocity.parse().map_err(|_| Fault::Velocity)?,
+            acceleration: acceleration.parse().map_err(|_| Fault::Acceleration)?,
+            power: power.parse().map_err(|_| Fault::Power)?,
         })
+    }
+}
+
+// The power of a move that names none.
+const POWER: &str = "16384";
+
+// A plan is written in three words, or in four where it names a power.
+impl TryFrom<&[String]> for Plan {
+    type Error = Fault;
+
+    ghost try_from_gives = { λ words r. Written (map string_bytes words.now) r };
+
+    fn try_from(words: &[String]) -> Result<Plan, Fault> {
+        match words {
+            [d, v, a] => Plan::read(d.as_str(), v.as_str(), a.as_str(), POWER),
+            [d, v, a, p] => Plan::read(d.as_str(), v.as_str(), a.as_str(), p.as_str()),
+            _ => Err(Fault::Count),
+        }
     }
 }

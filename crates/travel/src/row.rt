@@ -4,7 +4,7 @@ ghost use Rattle.travel.specs.Rows.{state_word};
 use std::fmt;
 
 // One cycle of a journey.
-#[derive(Clone, Copy)]
+#[derive(Clone, Copy, Debug, PartialEq, Eq)]
 pub struct Row {
     pub cycle: u32,
     // in 1/65,536 microstep a cycle

@@ -3,11 +3,13 @@ use Rattle.std.specs.Prelude.{◌≡◌, ℕ, cond, ℤ}
 use Rattle.stage.specs.Cut.{cut}
 use Rattle.stage.specs.Dac.{number, dac_pairs}
 use Rattle.stage.specs.Pairs.{Pair, Pairs}
-use Rattle.stage.specs.Pwm.{numbers, pwm_pairs}
+use Rattle.stage.specs.Pulse.{numbers}
+use Rattle.stage.specs.Pwm.{pwm_pairs}
 use Rattle.stage.specs.Wiring.{undone, undone_pairs}
-use Rattle.stage.specs.declared.dac.Dac.{Dac}
+use Rattle.stage.specs.declared.dac.Word.{Word}
+use Rattle.stage.specs.declared.levels.Levels.{Levels}
 use Rattle.stage.specs.declared.pulse.Pulse.{Pulse}
-use Rattle.stage.specs.declared.pwm.Pwm.{Pwm}
+use Rattle.stage.specs.declared.pwm.Lines.{Lines}
 use Rattle.stage.specs.declared.wiring.Wire.{Wire}
 use Rattle.stage.specs.declared.wiring.Wiring.{Wiring}
 use Rattle.wave.specs.Phases.{phases}
@@ -30,19 +32,13 @@ pub record Measured (s : Settings) (wire : Wire) (position : ℤ) (r : Row) : Ty
   pub pwm : r.pwm ≡ cuts 128 (phases s.kind s.power position)
   pub pulses : undone wire (numbers r.pulses) ≡ r.pwm
 
--- what each stage of a rig shows, and what the PWM stage has behind the wiring
-abbrev pub dac_shows : Dac → Pairs
-dac_shows d = dac_pairs d.words
-
-abbrev pub pwm_shows : Pwm → Pairs
-pwm_shows p = pwm_pairs p.one p.two
-
-abbrev pub wired_shows : Wiring Pwm → Pairs
-wired_shows w = undone_pairs w.one w.two (pwm_shows w.below)
+-- what a rig's PWM stage shows through its wiring
+abbrev pub wired_shows : Wiring (Levels Lines) → Pairs
+wired_shows w = undone_pairs w.one w.two (pwm_pairs w.below)
 
 -- gate 2 is not driven: no stage shows anything else of it than before
-pub record Spared (d e : Dac) (w x : Wiring Pwm) : Type 0 where
-  pub dac : (dac_shows e).two ≡ (dac_shows d).two
+pub record Spared (d e : Levels Word) (w x : Wiring (Levels Lines)) : Type 0 where
+  pub dac : (dac_pairs e).two ≡ (dac_pairs d).two
   pub pwm : (wired_shows x).two ≡ (wired_shows w).two
 
 -- the sign of a pulse as it is printed: '-' or '+'

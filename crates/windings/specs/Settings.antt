@@ -1,5 +1,5 @@
 -- What the arguments of a trial are taken for.
-use Rattle.std.specs.Prelude.{◌≡◌, ℕ, ◌≤◌, List, Some, None, Ok, Err, codes, Option, Result, ◌≢◌}
+use Rattle.std.specs.Prelude.{◌≡◌, ℕ, ◌≤◌, List, [], ◌∷◌, Some, None, Ok, Err, codes, Option, Result, ◌≢◌}
 use Rattle.std.specs.Str.Parse.{IsNumeral, digits_value, without_leading_plus}
 use Rattle.wave.specs.declared.phases.MotorKind.{MotorKind}
 use Rattle.wave.specs.declared.phases.MotorKind.TheVariants.{TwoPhase, ThreePhase}
@@ -32,3 +32,10 @@ Read kind power (Ok s) = Names kind (Some s.kind) × Writes power (Some s.power)
 Read kind power (Err Kind) = Names kind None
 Read kind power (Err Power) = ((k : MotorKind) × Names kind (Some k)) × Writes power None
 Read kind power (Err Extra) = ⊥
+
+-- what the words of a trial are read as: a kind and a power, where they name them
+abbrev pub Written : List (List ℕ) → Result Settings Fault → Type 0
+Written [] r = Read (codes "two-phase") (codes "16384") r
+Written (kind ∷ []) r = Read kind (codes "16384") r
+Written (kind ∷ (power ∷ [])) r = Read kind power r
+Written words r = r ≡ Err Extra

@@ -1,18 +1,26 @@
 ghost use Rattle.std.specs.Prelude.{◌≡◌};
 ghost use Rattle.stage.specs.Dac.{dac_pairs};
 ghost use Rattle.stage.specs.Pairs.{dark, pair_of};
-ghost use Rattle.windings.specs.Rows.{Measured, Spared, dac_shows, pwm_shows, spoken};
+ghost use Rattle.stage.specs.Pwm.{pwm_pairs};
+ghost use Rattle.windings.specs.Rows.{Measured, Spared, spoken};
 
-use crate::row::Row;
+use crate::row::{HEADING, Row};
 use crate::settings::Settings;
 use stage::Stage;
 use stage::dac::Dac;
 use stage::pwm::Pwm;
 use stage::wiring::{Wire, Wiring};
+use std::io;
 use wave::phases::phases;
 
 // The gate that a trial drives.
 const GATE: u8 = 1;
+
+// Wires that change places and negate: behind them a fitter sees the other way of connecting a motor.
+pub const CROSSED: Wire = Wire {
+    exchanged: true,
+    negated: true,
+};
 
 // A motor at a power, on a DAC stage and on a wired PWM stage.
 #[derive(Drop)]
@@ -24,19 +32,16 @@ pub struct Rig {
 
 // The words of the driven gate.
 fn words(dac: &Dac) -> (u16, u16)
-    ensures { spoken result ≡ pair_of (dac_pairs dac.now.words) 1 }
+    ensures { spoken result ≡ pair_of (dac_pairs dac.now) 1 }
 {
-    let (Some(a), Some(b)) = (dac.word(0), dac.word(1)) else {
-        unreachable()
-    };
-    (a, b)
+    (dac.word(0).unwrap(), dac.word(1).unwrap())
 }
 
 impl Rig {
     // The PWM stage is wired alike for both gates, and nothing is shown yet.
     pub fn new(settings: Settings, wire: Wire) -> Rig
         ensures made { (result.settings ≡ settings) × (result.pwm.one ≡ wire) × (result.pwm.two ≡ wire) }
-        ensures dark { (dac_shows result.dac ≡ dark) × (pwm_shows result.pwm.below ≡ dark) }
+        ensures dark { (dac_pairs result.dac ≡ dark) × (pwm_pairs result.pwm.below ≡ dark) }
     {
         let pwm = Wiring::new(Pwm::new(), wire, wire);
         Rig {
@@ -49,23 +54,32 @@ impl Rig {
     // Steps the motor to a position, and measures what comes of it. Gate 2 is left alone.
     pub fn step(&mut self, position: i32) -> Row
         ensures measured { Measured self.old.settings self.old.pwm.one position result }
-        ensures kept { (self.new.settings ≡ self.old.settings) × (self.new.pwm.one ≡ self.old.pwm.one) }
+        ensures kept { (self.new.settings ≡ self.old.settings) × (self.new.pwm.one ≡ self.old.pwm.one) × (self.new.pwm.two ≡ self.old.pwm.two) }
         ensures spared { Spared self.old.dac self.new.dac self.old.pwm self.new.pwm }
     {
         let (a, b) = phases(self.settings.kind, self.settings.power, position);
         self.dac.show(GATE, a, b);
         self.pwm.show(GATE, a, b);
-        let Some(pulses) = self.pwm.below().pulses(GATE) else {
-            unreachable()
-        };
         Row {
             position,
             phases: (a, b),
             dac: self.dac.pair(GATE),
             words: words(&self.dac),
             pwm: self.pwm.pair(GATE),
-            pulses,
+            pulses: self.pwm.below().pulses(GATE).unwrap(),
         }
+    }
+
+    // Prints a line for each position of an electrical turn.
+    pub fn show(&mut self, rt: &impl Print) -> io::Result<()>
+        ensures kept { (self.new.settings ≡ self.old.settings) × (self.new.pwm.one ≡ self.old.pwm.one) × (self.new.pwm.two ≡ self.old.pwm.two) }
+        ensures spared { Spared self.old.dac self.new.dac self.old.pwm self.new.pwm }
+    {
+        rt.println(HEADING)?;
+        for position in 0..256 {
+            rt.println(self.step(position))?;
+        }
+        Ok(())
     }
 }
 
@@ -74,11 +88,6 @@ mod tests {
     use super::*;
     use std::test::Fail;
     use wave::phases::MotorKind;
-
-    const CROSSED: Wire = Wire {
-        exchanged: true,
-        negated: true,
-    };
 
     // Lines that tools/windings.py prints.
     #[test]

@@ -5,7 +5,7 @@ use stage::pulse::Pulse;
 use std::fmt;
 
 // One line of a trial.
-#[derive(Clone, Copy)]
+#[derive(Clone, Copy, Debug, PartialEq, Eq)]
 pub struct Row {
     pub position: i32,
     // as computed for the motor

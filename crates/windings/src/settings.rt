@@ -1,37 +1,28 @@
-ghost use Rattle.windings.specs.Settings.{Names, Writes, Read};
+ghost use Rattle.std.specs.Prelude.{map, string_bytes};
+ghost use Rattle.windings.specs.Settings.{Names, Writes, Read, Written};
 
-use std::error::Error;
-use std::fmt;
+use thiserror::Error;
 use wave::phases::MotorKind;
 
 // The motor of a trial, and the power that it is driven with.
-#[derive(Clone, Copy)]
+#[derive(Clone, Copy, Debug, PartialEq, Eq)]
 pub struct Settings {
     pub kind: MotorKind,
     pub power: u16,
 }
 
 // What is wrong with the arguments.
-#[derive(Clone, Copy, Debug, PartialEq, Eq)]
+#[derive(Clone, Copy, Debug, PartialEq, Eq, Error)]
 pub enum Fault {
+    #[error("the first argument is the kind of motor: two-phase or three-phase")]
     Kind,
+    #[error("the second argument is the power: a whole number from 0 to 32767")]
     Power,
+    #[error("there are at most two arguments: the kind of motor and the power")]
     Extra,
 }
 
-impl fmt::Display for Fault {
-    fn fmt<W: fmt::Write>(&self, f: &mut fmt::Formatter<W>) -> fmt::Result {
-        f.write_str(match self {
-            Fault::Kind => "the first argument is the kind of motor: two-phase or three-phase",
-            Fault::Power => "the second argument is the power: a whole number from 0 to 32767",
-            Fault::Extra => "there are at most two arguments: the kind of motor and the power",
-        })
-    }
-}
-
-impl Error for Fault {}
-
-// The kind of motor that a word names.
+// The kind of motor that a word names. Its type stands in crate wave, which knows no words, so it has no `FromStr`.
 pub fn kind_from(word: &str) -> Option<MotorKind>
     ensures { Names word.now result }
 {
@@ -46,23 +37,38 @@ pub fn kind_from(word: &str) -> Option<MotorKind>
 pub fn power_from(word: &str) -> Option<u16>
     ensures { Writes word.now result }
 {
-    match word.parse::<u16>() {
-        Ok(power) => { if power <= 32767 { Some(power) } else { None } }
-        Err(_) => None,
-    }
+    word.parse().ok().filter(|power| *power <= 32767)
 }
 
 impl Settings {
     pub fn read(kind: &str, power: &str) -> Result<Settings, Fault>
         ensures { Read kind.now power.now result }
     {
-        let Some(kind) = kind_from(kind) else {
-            return Err(Fault::Kind);
-        };
-        let Some(power) = power_from(power) else {
-            return Err(Fault::Power);
-        };
-        Ok(Settings { kind, power })
+        Ok(Settings {
+            kind: kind_from(kind).ok_or(Fault::Kind)?,
+            power: power_from(power).ok_or(Fault::Power)?,
+        })
+    }
+}
+
+// What a trial takes where its words name no kind or no power.
+const KIND: &str = "two-phase";
+
+const POWER: &str = "16384";
+
+// Settings are written in two words at most: the kind, then the power.
+impl TryFrom<&[String]> for Settings {
+    type Error = Fault;
+
+    ghost try_from_gives = { λ words r. Written (map string_bytes words.now) r };
+
+    fn try_from(words: &[String]) -> Result<Settings, Fault> {
+        match words {
+            [] => Settings::read(KIND, POWER),
+            [kind] => Settings::read(kind.as_str(), POWER),
+            [kind, power] => Settings::read(kind.as_str(), power.as_str()),
+            _ => Err(Fault::Extra),
+        }
     }
 }
 
@@ -71,10 +77,7 @@ mod tests {
     use super::*;
 
     fn fault(kind: &str, power: &str) -> Option<Fault> {
-        match Settings::read(kind, power) {
-            Ok(_) => None,
-            Err(fault) => Some(fault),
-        }
+        Settings::read(kind, power).err()
     }
 
     #[test]
