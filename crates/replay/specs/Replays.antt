@@ -42,15 +42,16 @@ module _ {S R : Type 0} (m : Ghosts S) (n : Ghosts R) where
     abbrev pub Stopped : Fault → List Step → Board S m → Board R n → List ℕ → Type 0
     Stopped f ss c d bytes = (rest : List ℕ) × Played ss rest c d bytes × Fails rest f
 
-    -- how a list ends that is answered within so much room: it is played to its end; or up to a fault; or up to a step that is played, and
-    -- whose answer has no room
+    -- how a list ends that is answered within so much room: it is played to its end; or up to a fault; or up to a step that is played
+    -- behind those answered, and whose own answer has no room
     abbrev pub Ended : Result (Unit {0}) Fault → List Step → Board S m → Board R n → List ℕ → ℕ → Type 0
     Ended (Ok u) ss c d bytes room = Played ss [] c d bytes
     Ended (Err Unknown) ss c d bytes room = Stopped Unknown ss c d bytes
     Ended (Err CutShort) ss c d bytes room = Stopped CutShort ss c d bytes
     Ended (Err Operand) ss c d bytes room = Stopped Operand ss c d bytes
     Ended (Err NoRoom) ss c d bytes room =
-        (s : Step) × (rest : List ℕ) × (more : List ℕ) × Played (s ∷ ss) rest c d (bytes ++ more) × (room < length (bytes ++ more))
+        (s : Step) × (before : List ℕ) × (rest : List ℕ) × (g : Board S m) × (h : Board R n) × (more : List ℕ) × Played ss before g h bytes
+        × Begins before s rest × Turn s.side s.entry g c h d more × (room < length (bytes ++ more))
 
     -- the same, with the writer
     abbrev pub Replayed : Board S m → Board R n → Out → Out → Result (Unit {0}) Fault → Type 0

@@ -14,10 +14,14 @@ use Rattle.replay.proofs.boards.Boards.play.Goals as goal
 opened : (xs : List ℕ) → 1 ≤ length xs → xs ≡ get_or xs 0 0 ∷ take (length xs - 1) (drop 1 xs)
 opened xs h = drop-cons xs 0 0 h ∙ ap (λ z. get_or xs 0 0 ∷ z) (sym (take_rest xs 1))
 
+-- the step that a list begins with, by the pattern
+begun : (rest behind : List ℕ) (s : Step) → 1 ≤ length rest → Begins (get_or rest 0 0 ∷ take (length rest - 1) (drop 1 rest)) s behind → Begins rest s behind
+begun rest behind s some begins = (opened rest some ∙ begins.0, begins.1)
+
 -- one step more
 module _ {S R : Type 0} (m : Ghosts S) (n : Ghosts R) (xs : List ℕ) (a : Board S m) (b : Board R n) (ss : List Step) (s : Step) where
   one_more : (rest behind : List ℕ) (g c : Board S m) (h d : Board R n) (old more : List ℕ) → 1 ≤ length rest → Played m n xs a b ss rest g h old → Begins (get_or rest 0 0 ∷ take (length rest - 1) (drop 1 rest)) s behind → Turn m n s.side s.entry g c h d more → Played m n xs a b (s ∷ ss) behind c d (old ++ more)
-  one_more rest behind g c h d old more some played begins turn = (rest, g, h, old, more, played, (opened rest some ∙ begins.0, begins.1), turn, refl)
+  one_more rest behind g c h d old more some played begins turn = (rest, g, h, old, more, played, begun rest behind s some begins, turn, refl)
 
 pub loop-rest-preserved : goal.loop-rest-preserved
 loop-rest-preserved g c =
@@ -43,10 +47,10 @@ returns-in_err-turn g c =
     let full : c.from_residual-in_err-turn.result ≡ Err NoRoom = r.1 ∙ ap Err (r.2 ∙ turn.2.0) in
     let first = c.args.self.now in
     let o = c.args.out.now in
-    let played = one_more g.S.Stage g.R.Stage c.args.list.now first.a.board first.b.board i.0 s c.loop-rest.rest.now c.in_ok-step.behind.now before.a.board after.a.board before.b.board after.b.board i.1 turn.0 c.in-len1-up.len_at_least i.2 c.in_ok-step.ensures turn.1 in (
+    let begins = begun c.loop-rest.rest.now c.in_ok-step.behind.now s c.in-len1-up.len_at_least c.in_ok-step.ensures in (
       i.0,
       i.1,
       subst (λ e. Ended g.S.Stage g.R.Stage c.args.list.now first.a.board first.b.board e i.0 after.a.board after.b.board i.1 (length o.bytes.now - o.len)) (sym full)
-          (s, c.in_ok-step.behind.now, turn.0, played, crowded i.3 turn.2.1),
+          (s, c.loop-rest.rest.now, c.in_ok-step.behind.now, before.a.board, before.b.board, turn.0, i.2, begins, turn.1, crowded i.3 turn.2.1),
       filled i.3 turn.2.1,
     )
