@@ -1,7 +1,7 @@
 #!/usr/bin/env python3
-"""The host console, worked out from docs/BOARD.md, docs/SCRIPT.md and docs/CONSOLE.md, over the gate of gate.py.
+"""The console's lots and scripts, worked out from docs/BOARD.md, docs/SCRIPT.md and docs/CONSOLE.md, over the gate of gate.py.
 
-    python3 tools/console.py lots > crates/two_boards/stdout
+    python3 tools/console.py lots > crates/console/stdout
     python3 tools/console.py crates/example/data/example.txt > crates/example/stdout
 """
 import sys

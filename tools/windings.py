@@ -1,5 +1,5 @@
 #!/usr/bin/env python3
-"""What `console windings KIND POWER` must print, worked out from docs/ with the sine of the C library.
+"""What `./run --windings KIND POWER` must print, worked out from docs/ with the sine of the C library.
 
     python3 tools/windings.py three-phase 32767 > crates/example_windings/stdout
 """

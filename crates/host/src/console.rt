@@ -77,7 +77,7 @@ fn on_stages<T: Task>(rt: &HostRuntime, makes: Makes, task: T) -> anyhow::Result
     }
 }
 
-// The script on standard input, or the built-in task where it is empty.
+// The script on standard input, or the lots where it is empty.
 fn from_input(rt: &HostRuntime, makes: Makes) -> anyhow::Result<()> {
     let text = io::read_to_string(rt.alloc(), rt.stdin())?;
     let script = text.as_str();

@@ -1,4 +1,4 @@
-// The host console: its arguments, its scripts and its built-in task.
+// The console: its arguments, and the tasks that they ask for.
 #![tactic(auto)]
 
 pub mod console;

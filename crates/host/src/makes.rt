@@ -6,7 +6,7 @@ use std::fmt;
 use std::str::FromStr;
 use thiserror::Error;
 
-// The makes of output stage that a console can set its boards on.
+// The makes of output stage that the console can set its boards on.
 #[derive(Clone, Copy, Debug, PartialEq, Eq)]
 pub enum Make {
     Dac,

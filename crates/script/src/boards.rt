@@ -11,7 +11,7 @@ use desk::desk::Desk;
 use desk::side::Side;
 use stage::Stage;
 
-// The two boards of a console, and the one that lines go to.
+// The two boards of the console, and the one that lines go to.
 pub struct Boards<S: Stage + Drop, R: Stage + Drop> {
     a: Desk<S>,
     b: Desk<R>,
