@@ -1,5 +1,5 @@
 -- The sum of a falling speed: how many terms it takes, its order and its closed form.
-use Rattle.std.proofs.Common.{◌≡◌, ℕ, zero, suc, ◌+◌, ◌-◌, ◌*◌, ◌/◌, ◌<◌, ◌≤◌, sym, refl, ap, ◌∙◌, le_refl, suc-mul, mul_comm, add-mul, add_comm, mul-le-mul_left, mul-zero, zero-mul, mul-one, mul-add, div-mul-le_self, mul-div_cancel, arith}
+use Rattle.std.proofs.Common.{◌≡◌, ℕ, zero, suc, ◌+◌, ◌-◌, ◌*◌, ◌/◌, ◌<◌, ◌≤◌, sym, refl, ap, ◌∙◌, le_refl, suc-mul, mul_comm, add-mul, add_comm, mul-le-mul_left, mul_assoc, mul-zero, zero-mul, mul-one, mul-add, arith}
 use native.Mathlib.Nat.{zero-sub, mul-sub, lt-div-mul-add}
 use Rattle.motion.specs.Reach.{falling, reach}
 
@@ -94,13 +94,21 @@ falling_closed rate s (suc (suc n)) h =
       suc-mul (suc n) s,
     )
 
--- the closed form that is computed, with n terms and m one fewer
-pub reach_closed : (rate s n m : ℕ) → 0 < rate → n ≡ (s + rate - 1) / rate → m ≡ n - 1
-    → rate * (n * m / 2) + reach rate s ≡ n * s
-reach_closed rate s n m h e f =
-    let q : n * rate ≤ s + rate - 1 = rw e (div-mul-le_self (s + rate - 1) rate) in
-    let l : s + rate - 1 < n * rate + rate = rw e (lt-div-mul-add {a = s + rate - 1} h) in
-    let g : n * m / 2 ≡ triangle n =
-    rw f (rw (← twice_triangle n) (mul-div_cancel (triangle n) {n = 2} (omega arith)))
-    in
-    rw g (omega (arith, falling_closed rate s n (omega arith), reach_is rate s n h (omega arith)))
+-- the closed form that is computed, of a speed of q times the rate and r
+pub reach_closed : (rate s q r : ℕ) → 0 < rate → s ≡ q * rate + r → r < rate → (q + 1) * (s + r) ≡ reach rate s * 2
+reach_closed rate s q r h e l =
+    let n = q + 1 in
+    let m : n - 1 ≡ q = omega arith in
+    let p = add-mul q 1 rate in
+    let k : n * rate ≤ s + rate = omega arith in
+    omega (
+      arith,
+      falling_closed rate s n k,
+      reach_is rate s n h (omega arith),
+      mul_assoc rate (triangle n) 2,
+      ap (λ (x : ℕ). rate * x) (twice_triangle n ∙ ap (λ (x : ℕ). n * x) m),
+      mul-add n s r,
+      ap (λ (x : ℕ). n * x) e ∙ mul-add n (q * rate) r,
+      mul_assoc n q rate,
+      mul_comm (n * q) rate,
+    )

@@ -55,9 +55,20 @@ largest_next rate distance top s h w f over =
 pub largest_top : (rate distance top : ℕ) → reach rate top ≤ distance → Largest rate distance top top
 largest_top rate distance top f = record { within = omega arith; fits = f; most = λ t h _. h }
 
--- what `largest` finds where the top fits, and where it does not
+-- what `largest` finds where the top fits, where a speed above the answer does not, and where the answer is a speed below one that does not
 pub largest_all : (rate distance top : ℕ) → reach rate top ≤ distance → top ≡ largest rate distance top
 largest_all rate distance top f = largest_only rate distance top top (largest_top rate distance top f)
+
+pub largest_below : (rate distance top s : ℕ) → 0 < rate → distance < reach rate (s + 1) → largest rate distance top ≤ s
+largest_below rate distance top s h over =
+    let fits = (largest_is rate distance top).fits in
+    elim (either (largest rate distance top)) [
+      | inl g ↦ g
+      | inr g ↦ omega (arith, reach_mono rate (s + 1) (largest rate distance top) h g)
+    ]
+  where
+    either : (t : ℕ) → (t ≤ s) ⊎ (s + 1 ≤ t)
+    either t = search arith
 
 pub largest_found : (rate distance top s : ℕ) → 0 < rate → s ≤ top → reach rate s ≤ distance → distance < reach rate (s + 1)
     → s ≡ largest rate distance top

@@ -1,8 +1,9 @@
 -- Positions that wrap, and their microsteps.
-use Rattle.std.proofs.Common.{◌≡◌, ℕ, ◌+◌, ◌*◌, ◌%◌, ◌<◌, Bool, true, false, not, ◌||◌, ℤ, pos, ◌+ℤ◌, neg_ℤ, nat_abs, sym, refl, ap, ◌∙◌, subst, mod-eq_of_lt, arith}
+use Rattle.std.proofs.Common.{◌≡◌, ℕ, ◌+◌, ◌*◌, ◌/◌, ◌%◌, ◌^◌, ◌<◌, Bool, true, false, not, ◌||◌, ℤ, pos, negsuc, w64, of_z, ◌+ℤ◌, neg_ℤ, nat_abs, sym, refl, ap, ◌∙◌, subst, mod-eq_of_lt, arith}
 use native.Mathlib.Nat.{add-mul-mod_self_right}
 use lib.Signed.{lt_z, le_z}
 use Rattle.std.specs.Int.{int_rem_euclid}
+use Rattle.std.proofs.lemmas.Nat.{div-add-mod'}
 use Rattle.std.proofs.lemmas.Int.{ints, int_rem_euclid_is}
 use Rattle.motion.specs.Course.{Within, wrap, wraps}
 
@@ -45,3 +46,10 @@ wraps_is half z r false w e s d = go (wraps half z) refl
     go : (b : Bool) → wraps half z ≡ b → true ≡ wraps half z
     go true f = sym f
     go false f = absurd (d refl (e ∙ wrap_is half z z 0 0 (in_range half z f) refl))
+
+-- the remainder of a number's bits, where 64 bits hold a whole number of turns
+pub rem_bits : (z : ℤ) (m : ℕ) → nat_abs z < 2 ^ 63 → 0 < m → 2 ^ 64 % m ≡ 0 → int_rem_euclid z (pos m) ≡ pos (of_z w64 z % m)
+rem_bits (pos n) m h p e = int_rem_euclid_is (pos n) (pos m) m 0 (of_z w64 (pos n)) p refl (omega (arith, ints))
+rem_bits (negsuc n) m h p e =
+    let k = 2 ^ 64 / m in
+    int_rem_euclid_is (negsuc n) (pos m) m k (of_z w64 (negsuc n)) p refl (omega (arith, ints, div-add-mod' (2 ^ 64) m))

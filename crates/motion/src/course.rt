@@ -1,4 +1,4 @@
-ghost use Rattle.std.specs.Prelude.{◌≡◌, ◌*◌, ◌^◌, ◌<◌, ◌≤◌, max, pos, ◌-ℤ◌, ◌≤ℤ◌, ◌<ℤ◌, unsigned_abs};
+ghost use Rattle.std.specs.Prelude.{◌≡◌, ◌*◌, ◌%◌, ◌^◌, ◌<◌, ◌≤◌, max, pos, ◌-ℤ◌, ◌≤ℤ◌, ◌<ℤ◌, unsigned_abs};
 ghost use Rattle.motion.specs.Course.{Within, advanced, along, counted, crosses, cruise, distance_to, halts, toward, whole_steps, wrap};
 
 // A microstep in the unit of target positions.
@@ -38,12 +38,12 @@ pub(crate) fn along(d: i64, size: u32) -> i32
 pub(crate) fn halts(v: i32, distance: i64) -> bool
     ensures { result ≡ halts v distance }
 {
-    if distance > 0 {
-        v < 0
-    } else if distance < 0 {
-        v > 0
-    } else {
+    if distance == 0 {
         true
+    } else if distance > 0 {
+        v < 0
+    } else {
+        v > 0
     }
 }
 
@@ -62,21 +62,17 @@ pub fn cruise(v: i32, top: u32, acceleration: i32) -> i32
     toward(v, target, acceleration.unsigned_abs())
 }
 
-// `z` brought into -half .. half - 1, from at most a turn outside.
+// `z` brought into -half .. half - 1 by whole turns, of which 64 bits hold a whole number.
 fn wrapped(z: i64, half: i64) -> i64
     requires positive { pos 0 <ℤ half }
     requires bounded { half ≤ℤ pos (2 ^ 46) }
-    requires near { Within (2 * unsigned_abs half) z }
+    requires whole { 2 ^ 64 % (2 * unsigned_abs half) ≡ 0 }
+    requires near { unsigned_abs z < 2 ^ 48 }
     ensures is { result ≡ wrap (unsigned_abs half) z }
     ensures range { Within (unsigned_abs half) result }
 {
-    if z < -half {
-        z + 2 * half
-    } else if z >= half {
-        z - 2 * half
-    } else {
-        z
-    }
+    let turn = (2 * half).cast_unsigned();
+    ((z + half).cast_unsigned() % turn).cast_signed() - half
 }
 
 // The target position a cycle later, and whether it crossed an end of its range: both always hold, as of `overflowing_add`.

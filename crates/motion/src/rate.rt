@@ -25,9 +25,9 @@ impl Rate {
         requires { speed < 2 ^ 30 }
         ensures { result ≡ reach self.size speed }
     {
-        let terms = u64::from((speed + self.size - 1) / self.size);
-        let pairs = terms * terms.saturating_sub(1) / 2;
-        terms * u64::from(speed) - u64::from(self.size) * pairs
+        let whole = u64::from(speed / self.size);
+        let rest = u64::from(speed % self.size);
+        (whole + 1) * (u64::from(speed) + rest) / 2
     }
 
     // Whether a gate at that speed can still stop within the distance.
@@ -39,6 +39,7 @@ impl Rate {
     }
 
     // Narrows a span whose low end fits and whose high end does not, by at most 29 questions.
+    #[inline(never)]
     fn bisect(self, distance: u64, mut low: u32, mut high: u32) -> u32
         requires order { low < high }
         requires speed { high < 2 ^ 30 }
@@ -63,30 +64,34 @@ impl Rate {
         low
     }
 
-    // The greatest speed up to `top` whose reach is at most the distance, by at most 31 questions. `floor`, a speed that the answer is
-    // likely to be near, only changes what is asked.
-    #[tactic(auto, using(crate::proofs::Falling::reach_zero, crate::proofs::Fastest::largest_all, crate::proofs::Fastest::largest_found))]
+    // The greatest speed up to `top` whose reach is at most the distance, but at least the floor. The first question is the top, the second
+    // whether more than the floor fits, so that a gate that slows all it can asks no third; none asks more than 31.
+    #[tactic(auto, using(crate::proofs::Falling::reach_zero, crate::proofs::Fastest::largest_all, crate::proofs::Fastest::largest_below, crate::proofs::Fastest::largest_found))]
     pub fn largest(self, distance: u64, floor: u32, top: u32) -> u32
-        requires { top < 2 ^ 30 }
-        ensures is { result ≡ largest self.size distance top }
-        ensures best { Largest self.size distance top result }
+        requires floor { floor < 2 ^ 30 }
+        requires top { top < 2 ^ 30 }
+        ensures is { result ≡ max (largest self.size distance top) floor }
+        ensures best { floor < result → Largest self.size distance top result }
     {
+        if floor >= top {
+            return floor;
+        }
         if self.fits(top, distance) {
             return top;
         }
-        let pivot = floor.clamp(top.saturating_sub(SPAN), SPAN);
-        if pivot == 0 || pivot >= top {
-            return self.bisect(distance, 0, top);
-        }
+        let next = floor + 1;
+        let pivot = next.max(top.saturating_sub(SPAN));
         if self.fits(pivot, distance) {
             self.bisect(distance, pivot, top)
+        } else if pivot == next {
+            floor
         } else {
-            self.bisect(distance, 0, pivot)
+            self.bisect(distance, 0, pivot).max(floor)
         }
     }
 
     // The next speed of a gate that runs toward its destination, or stands.
-    #[tactic(auto, using(crate::proofs::Velocities::pace_slowed), unfolding(crate::specs::Course::pace))]
+    #[tactic(auto, unfolding(crate::specs::Course::pace))]
     fn pace(self, speed: u32, top: u32, distance: u64) -> u32
         requires speed { speed < 2 ^ 30 }
         requires top { top < 2 ^ 30 }
@@ -94,14 +99,11 @@ impl Rate {
         ensures range { result < 2 ^ 30 }
     {
         let slowed = speed.saturating_sub(self.size);
-        let limit = top.min(speed + self.size);
-        if slowed >= limit {
-            return slowed;
-        }
-        self.largest(distance, slowed, limit).max(slowed)
+        self.largest(distance, slowed, top.min(speed + self.size))
     }
 
     // The next velocity on the way to a destination at the distance. A gate that can stop within the distance still can after this cycle.
+    #[inline(always)]
     pub fn trapezoid(self, v: i32, top: u32, distance: i64) -> i32
         requires speed { unsigned_abs v < 2 ^ 30 }
         requires top { top < 2 ^ 30 }

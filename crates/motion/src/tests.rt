@@ -20,10 +20,26 @@ fn searches(rt: HostRuntime) {
         258_057_265
     );
     assert_eq!(rt;
-        Rate { size: 817 }.largest(10_916_795_706_014, 1_073_741_822, 1_073_741_823),
+        Rate { size: 817 }.largest(10_916_795_706_014, 0, 1_073_741_823),
         133_558_732
     );
     assert_eq!(rt; Rate { size: 16_384 }.largest(49_152, 5, 40_000), 32_768);
+    assert_eq!(rt;
+        Rate { size: 16_384 }.largest(49_152, 32_768, 40_000),
+        32_768
+    );
+    assert_eq!(rt;
+        Rate { size: 16_384 }.largest(49_152, 33_000, 40_000),
+        33_000
+    );
+    assert_eq!(rt;
+        Rate { size: 16_384 }.largest(49_152, 41_000, 40_000),
+        41_000
+    );
+    assert_eq!(rt;
+        Rate { size: 1 << 30 }.largest(700_000_000, 3, 1_073_741_823),
+        700_000_000
+    );
 }
 
 #[test]

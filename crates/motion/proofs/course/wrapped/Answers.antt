@@ -1,22 +1,24 @@
-use Rattle.std.proofs.Common.{pos, ◌+ℤ◌, ◌-ℤ◌, ◌*ℤ◌, nat_abs, arith}
+use Rattle.std.proofs.Common.{◌≡◌, ℕ, ◌*◌, ◌%◌, ℤ, pos, ◌+ℤ◌, nat_abs, ap, ◌∙◌, mod-lt, w64, to_z, of_z, arith}
 use Rattle.std.proofs.lemmas.Int.{ints}
-use Rattle.motion.specs.Course.{Within}
-use Rattle.motion.proofs.Turns.{wrap_is}
+use Rattle.motion.specs.Course.{wrap}
+use Rattle.motion.proofs.Turns.{rem_bits}
 use Rattle.motion.proofs.course.wrapped.Goals as goal
 
-pub returns-then-z-half-clause-is : goal.returns-then-z-half-clause-is
-returns-then-z-half-clause-is c =
-    let r = c.args.z +ℤ pos 2 *ℤ c.args.half in
-    let range : Within (nat_abs c.args.half) r = record { low = omega (arith, ints); high = omega (arith, ints) } in
-    omega (arith, ints, wrap_is (nat_abs c.args.half) c.args.z r 1 0 range (omega (arith, ints)))
-
-pub returns-then-z-half-2-clause-is : goal.returns-then-z-half-2-clause-is
-returns-then-z-half-2-clause-is c =
-    let r = c.args.z -ℤ pos 2 *ℤ c.args.half in
-    let range : Within (nat_abs c.args.half) r = record { low = omega (arith, ints); high = omega (arith, ints) } in
-    omega (arith, ints, wrap_is (nat_abs c.args.half) c.args.z r 0 1 range (omega (arith, ints)))
-
-pub returns-else-z-half-2-clause-is : goal.returns-else-z-half-2-clause-is
-returns-else-z-half-2-clause-is c =
-    let range : Within (nat_abs c.args.half) c.args.z = record { low = omega (arith, ints); high = omega (arith, ints) } in
-    omega (arith, ints, wrap_is (nat_abs c.args.half) c.args.z c.args.z 0 0 range (omega (arith, ints)))
+pub returns-clause-is : goal.returns-clause-is
+unfolding wrap
+returns-clause-is c =
+    let z : ℤ = c.args.z +ℤ pos (nat_abs c.args.half) in
+    let turn : ℕ = 2 * nat_abs c.args.half in
+    let sum : to_z w64 (of_z w64 (to_z w64 (of_z w64 c.args.z) +ℤ to_z w64 (of_z w64 c.args.half))) ≡ z = omega (arith, ints) in
+    let bits : c.cast_unsigned.result ≡ of_z w64 z = c.cast_unsigned.ensures ∙ ap (of_z w64) sum in
+    let by : c.cast_unsigned-turn.result ≡ turn = omega (arith, ints) in
+    let rest : c.cast_unsigned.result % c.cast_unsigned-turn.result ≡ of_z w64 z % turn =
+    ap (λ (n : ℕ). n % c.cast_unsigned-turn.result) bits ∙ ap (λ (n : ℕ). of_z w64 z % n) by
+    in
+    omega (
+      arith,
+      ints,
+      rest,
+      mod-lt (of_z w64 z) {m = turn} (omega (arith, ints)),
+      rem_bits z turn (omega (arith, ints)) (omega (arith, ints)) c.requires.whole,
+    )

@@ -1,25 +1,32 @@
-use borrow.Author.Tests.{true-leb, false-leb}
-use Rattle.std.proofs.Common.{arith}
+use borrow.Author.Tests.{true-leb}
+use Rattle.std.proofs.Common.{◌≡◌, subst, arith}
 use Rattle.motion.specs.Reach.{reach}
-use Rattle.motion.proofs.Fastest.{moving, largest_next, largest_top}
+use Rattle.motion.specs.Speed.{Largest}
+use Rattle.motion.proofs.Fastest.{largest_is, largest_only, largest_next, largest_top}
 use Rattle.motion.proofs.rate.Rate.largest.Goals as goal
 
-pub bisect-requires-clause-order : goal.bisect-requires-clause-order
-bisect-requires-clause-order c =
-    moving _ _ _ (false-leb (reach c.args.self.size c.args.top) c.args.distance c.if-fits.ensures)
+pub returns-then-floor-top-clause-is : goal.returns-then-floor-top-clause-is
+returns-then-floor-top-clause-is c =
+    omega (arith, (largest_is c.args.self.size c.args.distance c.args.top).within)
 
 pub returns-then-fits-clause-best : goal.returns-then-fits-clause-best
-returns-then-fits-clause-best c =
+returns-then-fits-clause-best c _ =
     largest_top _ _ _ (true-leb (reach c.args.self.size c.args.top) c.args.distance c.if-fits.ensures)
 
-pub returns-then-pivot-eq0-clause-best : goal.returns-then-pivot-eq0-clause-best
-returns-then-pivot-eq0-clause-best c =
-    largest_next _ _ _ _ (omega arith) (omega arith) c.bisect.ensures.fits c.bisect.ensures.over
+pub returns-then-fits-2-clause-is : goal.returns-then-fits-2-clause-is
+returns-then-fits-2-clause-is c =
+    let pivot = c.max-pivot.result in
+    let fits = true-leb (reach c.args.self.size pivot) c.args.distance c.if-fits-2.ensures in
+    let best = largest_next _ _ c.args.top _ (omega arith) (omega arith) c.bisect.ensures.fits c.bisect.ensures.over in
+    omega (arith, best.most pivot (omega arith) fits, largest_only _ _ _ _ best)
 
 pub returns-then-fits-2-clause-best : goal.returns-then-fits-2-clause-best
-returns-then-fits-2-clause-best c =
-    largest_next _ _ _ _ (omega arith) (omega arith) c.bisect-then-fits-2.ensures.fits c.bisect-then-fits-2.ensures.over
+returns-then-fits-2-clause-best c _ =
+    largest_next _ _ _ _ (omega arith) (omega arith) c.bisect.ensures.fits c.bisect.ensures.over
 
-pub returns-else-fits-2-clause-best : goal.returns-else-fits-2-clause-best
-returns-else-fits-2-clause-best c =
-    largest_next _ _ _ _ (omega arith) (omega arith) c.bisect-else-fits-2.ensures.fits c.bisect-else-fits-2.ensures.over
+pub returns-else-pivot-next-clause-best : goal.returns-else-pivot-next-clause-best
+returns-else-pivot-next-clause-best c above =
+    let found = c.bisect-else-pivot-next in
+    let best = largest_next _ _ c.args.top _ (omega arith) (omega arith) found.ensures.fits found.ensures.over in
+    let same : found.result ≡ c.max.result = omega arith in
+    subst (Largest c.args.self.size c.args.distance c.args.top) same best

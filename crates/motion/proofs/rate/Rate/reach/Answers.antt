@@ -1,24 +1,24 @@
-use Rattle.std.proofs.Common.{◌≡◌, ◌+◌, ◌*◌, ◌/◌, ◌^◌, arith}
-use Rattle.std.proofs.lemmas.Nat.{mul-lt}
+use Rattle.std.proofs.Common.{◌≡◌, ℕ, ◌+◌, ◌*◌, ◌<◌, ap, mul-div_cancel, mod-lt, arith}
+use Rattle.std.proofs.lemmas.Nat.{div-add-mod'}
 use Rattle.motion.specs.Reach.{reach}
 use Rattle.motion.proofs.Falling.{reach_closed}
 use Rattle.motion.proofs.rate.Rate.reach.Goals as goal
 
 -- the closed form, of what is computed
-closed : (c : goal.After-from-2)
-    → c.from-2.result * (c.from-terms.result * c.saturating_sub.result / 2) + reach c.from-2.result c.from.result
-    ≡ c.from-terms.result * c.from.result
+closed : (c : goal.After-from)
+    → (c.from-whole.result + 1) * (c.from.result + c.from-rest.result) ≡ reach c.args.self.size c.args.speed * 2
 closed c =
-    reach_closed c.from-2.result c.from.result c.from-terms.result c.saturating_sub.result (omega arith) (cc)
-    c.saturating_sub.ensures
-
-pub overflow_mul-result-2 : goal.overflow_mul-result-2
-overflow_mul-result-2 c =
-    omega (arith, closed c, mul-lt c.from-terms.result c.from.result (2 ^ 32) (2 ^ 30) (omega arith) (omega arith))
-
-pub overflow_sub-result : goal.overflow_sub-result
-overflow_sub-result c = omega (arith, closed c)
+    let speed = c.args.speed in
+    let size = c.args.self.size in
+    let split : c.from.result ≡ c.from-whole.result * size + c.from-rest.result =
+    omega (arith, div-add-mod' speed size, ap (λ (n : ℕ). n * size) c.from-whole.ensures)
+    in
+    let rest : c.from-rest.result < size = omega (arith, mod-lt speed {m = size} (omega arith)) in
+    omega (
+      arith,
+      reach_closed size c.from.result c.from-whole.result c.from-rest.result (omega arith) split rest,
+      ap (reach size) c.from.ensures,
+    )
 
 pub returns : goal.returns
-returns c =
-    simp (← c.from.ensures, ← c.from-2.ensures) (omega (arith, closed c))
+returns c = rw (closed c) (mul-div_cancel (reach c.args.self.size c.args.speed) {n = 2} (omega arith))
