@@ -1,11 +1,16 @@
 -- The size of the wave, and of a share of the power.
-use Rattle.std.proofs.Common.{◌≡◌, ℕ, ◌*◌, ◌/◌, ◌<◌, ◌≤◌, Bool, true, false, cond, leb, ℤ, pos, neg_ℤ, nat_abs, refl, ap, arith, leb→le}
+use Rattle.std.proofs.Common.{◌≡◌, ℕ, ◌+◌, ◌*◌, ◌/◌, ◌^◌, ◌<◌, ◌≤◌, Bool, true, false, cond, map, slice_index_or, ltb, leb, pos, neg_ℤ, nat_abs, refl, arith, leb→le}
 use Rattle.std.proofs.lemmas.Nat.{mul-le, div-add-mod'}
-use lib.Signed.{lt_z}
+use Rattle.std.specs.List.{range_with_len}
 use Rattle.std.proofs.lemmas.Int.{ints}
+use Rattle.std.proofs.lemmas.List.FromFn.{get_or-map-range_with_len}
 use Rattle.wave.specs.Phases.{scaled}
-use Rattle.wave.specs.Wave.{half}
+use Rattle.wave.specs.Wave.{along, half}
 use Rattle.wave.proofs.Every.{at}
+
+-- the half wave as a list
+pub halves : (place : ℕ) → place < 128 → slice_index_or (map half (range_with_len 0 128)) place 0 ≡ half place
+halves place h = get_or-map-range_with_len half 0 128 place place 0 h (omega arith)
 
 -- no place of the half wave is above 32,767
 pub half_bound : (place : ℕ) → place < 128 → half place ≤ 32767
@@ -13,15 +18,25 @@ half_bound place h =
     leb→le (half place) 32767 (at (λ k. leb (half k) 32767) 128 tt place h)
 
 -- a share of the power is at most the power
-share : (size power : ℕ) → size ≤ 32767 → size * power / 32767 ≤ power
+pub share : (size power : ℕ) → size ≤ 32767 → size * power / 32767 ≤ power
 share size power h = omega (arith, mul-le size power 32767 power h (omega arith), div-add-mod' (size * power) 32767)
 
--- a sign changes no size
-signed_size : (b : Bool) (n : ℕ) → nat_abs (cond b (neg_ℤ (pos n)) (pos n)) ≡ n
-signed_size true n = omega (arith, ints)
-signed_size false n = refl
+-- to multiply one more by the reciprocal and shift is to divide
+pub reciprocal : (n : ℕ) → n ≤ 2 ^ 31 → (n + 1) * 1073774593 / 2 ^ 45 ≡ n / 32767
+reciprocal n h = omega arith
 
--- what a number of the wave is scaled to is at most the power
-pub scaled_bound : (power : ℕ) (x y : ℤ) → nat_abs x ≤ 32767 → y ≡ scaled power x → nat_abs y ≤ power
-scaled_bound power x y h is =
-    omega (arith, ap nat_abs is, signed_size (lt_z x (pos 0)) (nat_abs x * power / 32767), share (nat_abs x) power h)
+-- a sign changes no size
+pub along_size : (place n : ℕ) → nat_abs (along place n) ≡ n
+along_size place n = go (ltb place 128)
+  where
+    go : (b : Bool) → nat_abs (cond b (pos n) (neg_ℤ (pos n))) ≡ n
+    go true = refl
+    go false = omega (arith, ints)
+
+-- what is scaled is the size
+pub scaled_along : (power place n : ℕ) → scaled power (along place n) ≡ along place (n * power / 32767)
+scaled_along power place n = go (ltb place 128) n
+  where
+    go : (b : Bool) (n : ℕ) → scaled power (cond b (pos n) (neg_ℤ (pos n))) ≡ cond b (pos (n * power / 32767)) (neg_ℤ (pos (n * power / 32767)))
+    go true n = grind (arith, ints)
+    go false n = grind (arith, ints)

@@ -1,10 +1,15 @@
-ghost use Rattle.std.specs.Prelude.{◌≡◌, ◌≤◌, unsigned_abs};
+ghost use Rattle.std.specs.Prelude.{◌≡◌, ◌*◌, ◌/◌, ◌≤◌, unsigned_abs};
+ghost use Rattle.wave.specs.Wave.{wave};
 ghost use Rattle.wave.specs.Phases.{angle, lead, scaled, phases};
 
-use crate::wave::wave_at;
+use crate::quarter::half;
+use crate::wave::along;
 
 // The greatest value of the wave.
-const FULL_SCALE: i32 = 32_767;
+const FULL_SCALE: u64 = 32_767;
+
+// Full scale times this is 2^45 - 1: to divide by full scale, it is quicker to multiply one more by this and shift.
+const RECIPROCAL: u64 = ((1 << 45) - 1) / FULL_SCALE;
 
 #[derive(Clone, Copy, PartialEq, Eq, Debug)]
 pub enum MotorKind {
@@ -31,13 +36,24 @@ pub fn angle(position: i32) -> u8
     position.rem_euclid(256) as u8
 }
 
-// A number times the power over full scale, cut toward zero.
-fn scaled(power: u16, x: i32) -> i32
-    requires { unsigned_abs x ≤ 32767 }
-    ensures is { result ≡ scaled power x }
+// A size of the wave times the power over full scale, cut down.
+#[tactic(auto, using(crate::proofs::Waves::share, crate::proofs::Waves::reciprocal))]
+fn share(power: u16, size: u16) -> u16
+    requires { size ≤ 32767 }
+    ensures is { result ≡ size * power / 32767 }
+    ensures bound { result ≤ power }
+{
+    let product = u64::from(size) * u64::from(power);
+    ((product + 1) * RECIPROCAL >> 45) as u16
+}
+
+// What a winding is driven with at a place of the wave. The sign is given last, so that nothing signed is divided.
+#[tactic(auto, using(crate::proofs::Waves::half_bound, crate::proofs::Waves::along_size, crate::proofs::Waves::scaled_along), unfolding(crate::specs::Wave::wave))]
+fn phase(power: u16, place: u32) -> i32
+    ensures is { result ≡ scaled power (wave place) }
     ensures bound { unsigned_abs result ≤ power }
 {
-    x * i32::from(power) / FULL_SCALE
+    along(place, share(power, half(place % 128)))
 }
 
 // What the phases A and B of a motor are driven with at a position.
@@ -45,7 +61,7 @@ pub fn phases(kind: MotorKind, power: u16, position: i32) -> (i32, i32)
     ensures is { result ≡ phases kind power position }
     ensures bound { (unsigned_abs result.0 ≤ power) × (unsigned_abs result.1 ≤ power) }
 {
-    let place = angle(position);
-    let ahead = place.wrapping_add(kind.lead());
-    (scaled(power, wave_at(place)), scaled(power, wave_at(ahead)))
+    let place = u32::from(angle(position));
+    let ahead = (place + u32::from(kind.lead())) % 256;
+    (phase(power, place), phase(power, ahead))
 }

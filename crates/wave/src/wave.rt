@@ -1,25 +1,22 @@
-ghost use Rattle.std.specs.Prelude.{◌≡◌, ◌<◌, ◌≤◌, unsigned_abs};
-ghost use Rattle.wave.specs.Wave.{half, wave};
+ghost use Rattle.std.specs.Prelude.{◌≡◌, ◌≤◌, unsigned_abs};
+ghost use Rattle.wave.specs.Wave.{along, wave};
 
-use crate::quarter::entry;
+use crate::quarter::half;
 
-// Half a wave, of 128 places: up the quarter and down again.
-fn half(place: u8) -> u16
-    requires { place < 128 }
-    ensures { result ≡ half place }
+// A size with the sign that the wave has at a place.
+pub(crate) fn along(place: u32, size: u16) -> i32
+    ensures { result ≡ along place size }
 {
-    entry(place.min(128 - place))
+    let size = i32::from(size);
+    if place < 128 { size } else { -size }
 }
 
 // The wave at one of its 256 places.
-#[tactic(auto, using(crate::proofs::Waves::half_bound), unfolding(crate::specs::Wave::wave))]
+#[tactic(auto, using(crate::proofs::Waves::half_bound, crate::proofs::Waves::along_size), unfolding(crate::specs::Wave::wave))]
 pub fn wave_at(place: u8) -> i32
     ensures is { result ≡ wave place }
     ensures bound { unsigned_abs result ≤ 32767 }
 {
-    if place < 128 {
-        i32::from(half(place))
-    } else {
-        -i32::from(half(place - 128))
-    }
+    let place = u32::from(place);
+    along(place, half(place % 128))
 }

@@ -1,0 +1,5 @@
+use Rattle.wave.proofs.Waves.{halves}
+use Rattle.wave.proofs.quarter.half.Goals as goal
+
+pub returns : goal.returns
+returns c = halves c.args.place c.requires
