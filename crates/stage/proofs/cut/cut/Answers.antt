@@ -1,18 +1,20 @@
-use Rattle.std.proofs.Common.{arith}
-use Rattle.std.proofs.lemmas.Int.{ints, to_z-of_z}
-use Rattle.stage.proofs.Cuts.{cut_negative, cut_positive, kept}
+use Rattle.std.proofs.Common.{◌≡◌, sym, ap, ◌∙◌, arith}
+use Rattle.std.proofs.lemmas.Int.{ints}
+use Rattle.stage.specs.Cut.{cut}
+use Rattle.stage.proofs.Cuts.{kept}
+use Rattle.stage.proofs.Ends.{none, cut_bound, computed}
 use Rattle.stage.proofs.cut.cut.Goals as goal
 
-pub returns-then-x-lt0 : goal.returns-then-x-lt0
-returns-then-x-lt0 c = record {
-  is = grind (arith, to_z-of_z, cut_negative c.args.step c.args.x);
-  bound = omega (arith, ints, c.cut_size-size.ensures.bound);
-  kept = kept c.args.step c.args.x _ (grind (arith, to_z-of_z, cut_negative c.args.step c.args.x));
-}
+pub returns-then-step-eq0-clause-is : goal.returns-then-step-eq0-clause-is
+returns-then-step-eq0-clause-is c =
+    let zero : c.args.step ≡ 0 = omega (arith, ints) in
+    sym (ap (λ n. cut n c.args.x) zero ∙ none c.args.x)
 
-pub returns-else-x-lt0 : goal.returns-else-x-lt0
-returns-else-x-lt0 c = record {
-  is = grind (arith, to_z-of_z, cut_positive c.args.step c.args.x);
-  bound = omega (arith, ints, c.cut_size-size.ensures.bound);
-  kept = kept c.args.step c.args.x _ (grind (arith, to_z-of_z, cut_positive c.args.step c.args.x));
-}
+pub returns : goal.returns
+returns c =
+    let is = computed c.args.step c.args.x _ _ c.from-step.ensures (omega (arith, ints)) (omega arith) c.ranges.x c.clamp.ensures.value in
+    record {
+      is = is;
+      bound = rw is (cut_bound c.args.step c.args.x);
+      kept = kept c.args.step c.args.x _ is;
+    }
