@@ -113,6 +113,7 @@ impl Table {
     }
 
     // One cycle of both gates, but for their phases.
+    #[inline(always)]
     fn turn(&mut self, left: Inputs, right: Inputs)
         requires { Fit self.old }
         ensures state { state_of self.new ≡ after (state_of self.old) (act_cycle left right) }
@@ -130,6 +131,7 @@ impl Table {
         (self.gates[0].phases(), self.gates[1].phases())
     }
 
+    #[inline(always)]
     pub fn cycle(&mut self, left: Inputs, right: Inputs) -> ((i32, i32), (i32, i32))
         requires { Fit self.old }
         ensures shows { result ≡ (shows (state_of self.new).one, shows (state_of self.new).two) }

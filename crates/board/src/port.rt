@@ -37,6 +37,7 @@ pub enum Step {
 
 impl Port {
     // Moves the port on by what comes in, or refuses it and stays.
+    #[inline(always)]
     pub fn step(&mut self, incoming: Incoming) -> Result<Step, Refusal>
         ensures port { self.new ≡ port_next self.old incoming }
         ensures step { result ≡ port_step self.old incoming }

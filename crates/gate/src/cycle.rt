@@ -1,5 +1,5 @@
 ghost use Rattle.std.specs.Prelude.{◌≡◌, ◌^◌, ◌<◌, unsigned_abs};
-ghost use Rattle.gate.specs.Cycles.{clocked, encoded, tripped, meets, met, next_velocity, moved, at_rest, settled, cycled, shows};
+ghost use Rattle.gate.specs.Cycles.{clocked, encoded, tripped, meets, met, next_velocity, moved, arrived, at_rest, settled, cycled, shows};
 ghost use Rattle.gate.specs.Laws.{Paced, Ordered};
 ghost use Rattle.gate.specs.Sound.{Sound};
 
@@ -88,6 +88,7 @@ impl Gate {
         }
     }
 
+    #[inline(always)]
     fn next_velocity(&self) -> i32
         requires { Sound self.now }
         ensures is { result ≡ next_velocity self.now }
@@ -110,6 +111,7 @@ impl Gate {
         }
     }
 
+    #[inline(always)]
     fn advance(&mut self)
         requires { Sound self.old }
         ensures is { self.new ≡ moved self.old }
@@ -122,19 +124,24 @@ impl Gate {
         self.events.wrapped |= crossed;
     }
 
+    // Whether the gate has a destination, and stands on it.
+    fn arrived(&self) -> bool
+        requires { Sound self.now }
+        ensures { result ≡ arrived self.now.active.mode self.now }
+    {
+        match self.active.mode {
+            ProfileMode::Velocity => false,
+            ProfileMode::Trapezoidal => distance(self.active.destination, self.motion.target) == 0,
+        }
+    }
+
     // Whether the gate stands, and has nowhere to go.
     pub fn at_rest(&self) -> bool
         requires { Sound self.now }
         ensures { result ≡ at_rest self.now }
     {
-        if self.motion.velocity != 0 {
-            return false;
-        }
-        let arrived = match self.active.mode {
-            ProfileMode::Velocity => false,
-            ProfileMode::Trapezoidal => distance(self.active.destination, self.motion.target) == 0,
-        };
-        self.motion.halted || self.active.velocity == 0 || arrived
+        self.motion.velocity == 0
+            && (self.motion.halted || self.active.velocity == 0 || self.arrived())
     }
 
     fn settle(&mut self)
@@ -162,6 +169,7 @@ impl Gate {
     }
 
     // One cycle but for the phases, of what the encoder and the switches bring.
+    #[inline(always)]
     pub fn turn(&mut self, inputs: Inputs)
         requires { Sound self.old }
         ensures is { self.new ≡ cycled inputs self.old }
