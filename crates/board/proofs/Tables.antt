@@ -1,14 +1,15 @@
 -- A table of two gates, by its numbers.
-use Rattle.std.proofs.Common.{◌≡◌, ℕ, zero, suc, ◌<◌, Bool, true, false, cond, eqb, List, [], ◌∷◌, length, get_or, set, Some, sym, refl, ap, ◌∙◌, subst, arith, lit<, eqb-true}
+use Rattle.std.proofs.Common.{◌≡◌, ℕ, zero, suc, ◌<◌, Bool, true, false, cond, eqb, List, [], ◌∷◌, Result, Ok, Err, length, get_or, set, Some, sym, refl, ap, ◌∙◌, subst, arith, lit<, eqb-true}
 use Rattle.gate.specs.declared.gate.Gate.{Gate}
 use Rattle.gate.specs.Orders.{answer}
+use Rattle.gate.specs.declared.orders.OutOfRange.{OutOfRange as Unfit}
 use Rattle.gate.specs.Sound.{Sound}
 use Rattle.gate.specs.declared.inputs.Inputs.{Inputs}
 use Rattle.gate.specs.Cycles.{cycled}
-use Rattle.board.specs.declared.refusal.Refusal.TheVariants.{NoSlip}
+use Rattle.board.specs.declared.refusal.Refusal.TheVariants.{NoSlip, OutOfRange}
 use Rattle.board.specs.declared.table.Table.{Table}
-use Rattle.board.specs.Acts.{blank, state_of, gate_of, lendable, enters, enters_if, held, moved, says, after, answer as answered, act_cycle, act_take, act_close, current_by, port_by, heard_range, spoken, Fit}
-use Rattle.board.specs.Own.{Own, taken, closed, done, slipped, step, replay, ran_or_not}
+use Rattle.board.specs.Acts.{blank, state_of, gate_of, lendable, enters, enters_if, held, moved, says, after, answer as answered, act_cycle, act_take, act_close, current_by, port_by, spoken, Fit}
+use Rattle.board.specs.Own.{Own, Answer, taken, closed, done, refused, slipped, step, replay, ran_or_not}
 
 -- what holds of both gates holds of each
 pub by_two : (P : ℕ → Type 0) → P 0 → P 1 → (k : ℕ) → k < 2 → P k
@@ -72,6 +73,10 @@ entered t u k e g l h gates is current port =
     cc (one, two, current, port)
 
 -- an order's answer, by its range
+abbrev pub heard_range : Result (Unit {0}) Unfit → Answer
+heard_range (Ok _) = done
+heard_range (Err e) = refused OutOfRange
+
 pub heard_answer : (fits : Bool) → heard_range (answer fits) ≡ spoken (ran_or_not fits)
 heard_answer true = refl
 heard_answer false = refl

@@ -4,7 +4,6 @@ use Rattle.std.proofs.Props.{props}
 use Rattle.gate.specs.declared.gate.Gate.{Gate}
 use Rattle.gate.specs.declared.inputs.Inputs.{Inputs}
 use Rattle.gate.specs.declared.orders.Order.TheVariants.{Update}
-use Rattle.gate.specs.declared.orders.OutOfRange.{OutOfRange as Unfit}
 use Rattle.gate.specs.declared.breakpoint.BreakMode.TheVariants.{Off}
 use Rattle.gate.specs.declared.profile.ProfileMode.TheVariants.{Trapezoidal}
 use Rattle.gate.specs.Events.{no_events}
@@ -226,10 +225,6 @@ answer s a = says s (move s a)
 abbrev pub heard_done : Result (Unit {0}) Refusal → Answer
 heard_done (Ok _) = done
 heard_done (Err e) = refused e
-
-abbrev pub heard_range : Result (Unit {0}) Unfit → Answer
-heard_range (Ok _) = done
-heard_range (Err e) = refused OutOfRange
 
 abbrev pub heard_word : Result ℕ Refusal → Answer
 heard_word (Ok w) = gave w

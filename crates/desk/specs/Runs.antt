@@ -1,14 +1,10 @@
 -- Cycles in which the encoders stand and no switch is active.
-use Rattle.std.specs.Prelude.{ℕ, List, ◌++◌, replicate, pos, false}
+use Rattle.std.specs.Prelude.{ℕ, List, ◌++◌, replicate}
 use Rattle.stage.specs.declared.Stage.{Ghosts}
-use Rattle.gate.specs.declared.inputs.Inputs.{Inputs}
+use Rattle.gate.specs.Inputs.{still}
 use Rattle.board.specs.declared.board.Board.{Board}
 use Rattle.board.specs.Acts.{Act, act_cycle}
 use Rattle.board.specs.Runs.{Came}
-
--- nothing is counted, and no switch is active
-abbrev pub still : Inputs
-still = record { count = pos 0; positive = false; negative = false; home = false }
 
 -- so many cycles of that kind
 abbrev pub cycles : ℕ → List Act

@@ -5,7 +5,7 @@ use Rattle.wave.specs.Phases.{phases}
 use Rattle.stage.specs.Cut.{cut}
 use Rattle.motion.specs.Course.{whole_steps}
 use Rattle.gate.specs.declared.gate.Gate.{Gate}
-use Rattle.gate.specs.declared.inputs.Inputs.{Inputs}
+use Rattle.gate.specs.Inputs.{still}
 use Rattle.gate.specs.declared.profile.Profile.{Profile}
 use Rattle.gate.specs.declared.profile.ProfileMode.{ProfileMode}
 use Rattle.gate.specs.declared.profile.ProfileMode.TheVariants.{Trapezoidal, Velocity}
@@ -33,10 +33,6 @@ gate_at position v p =
       slip = false;
       clock = (fresh false).clock;
     }
-
--- a cycle with nothing active
-abbrev pub still : Inputs
-still = record { count = pos 0; positive = false; negative = false; home = false }
 
 abbrev pub registers : ProfileMode → ℤ → ℕ → ℤ → Profile
 registers m destination velocity acceleration = record { destination = destination; velocity = velocity; acceleration = acceleration; mode = m }

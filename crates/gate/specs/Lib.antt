@@ -1,5 +1,6 @@
 pub mod Profile
 pub mod Clock
+pub mod Inputs
 pub mod Events
 pub mod Gates
 pub mod Sound

@@ -1,15 +1,10 @@
 -- What one line of a journey holds.
-use Rattle.std.specs.Prelude.{◌≡◌, ℕ, false, cond, not, List, pos, codes}
+use Rattle.std.specs.Prelude.{◌≡◌, ℕ, cond, not, List, codes}
 use Rattle.motion.specs.Course.{whole_steps}
 use Rattle.gate.specs.declared.gate.Gate.{Gate}
-use Rattle.gate.specs.declared.inputs.Inputs.{Inputs}
 use Rattle.gate.specs.Clock.{time}
 use Rattle.gate.specs.Cycles.{at_rest, shows}
 use Rattle.travel.specs.declared.row.Row.{Row}
-
--- no count comes, and no switch is active
-abbrev pub idle : Inputs
-idle = record { count = pos 0; positive = false; negative = false; home = false }
 
 -- the row shows the gate as it stands
 pub record Shown (g : Gate) (r : Row) : Type 0 where

@@ -2,12 +2,12 @@
 use Rattle.std.specs.Prelude.{◌≡◌, ℕ, zero, suc, ◌<◌, ◌≤◌, true, false, ◌⊎◌}
 use Rattle.gate.specs.declared.gate.Gate.{Gate}
 use Rattle.gate.specs.Cycles.{at_rest, cycled}
-use Rattle.travel.specs.Rows.{idle}
+use Rattle.gate.specs.Inputs.{still}
 
 -- the gate after so many cycles
 abbrev pub after : ℕ → Gate → Gate
 after zero g = g
-after (suc n) g = cycled idle (after n g)
+after (suc n) g = cycled still (after n g)
 
 -- the gate has run n cycles, at most 10,000, and stood still after none before the last
 pub record Ran (n : ℕ) (g h : Gate) : Type 0 where

@@ -4,7 +4,8 @@ ghost use Rattle.gate.specs.Laws.{Paced};
 ghost use Rattle.gate.specs.Sound.{Sound};
 ghost use Rattle.travel.specs.Plans.{Sent, Faulty};
 ghost use Rattle.travel.specs.Runs.{Ends, Ran};
-ghost use Rattle.travel.specs.Rows.{idle, Shown};
+ghost use Rattle.gate.specs.Inputs.{still};
+ghost use Rattle.travel.specs.Rows.{Shown};
 
 use crate::plan::{Fault, Plan};
 use crate::row::{HEADING, Row};
@@ -44,7 +45,7 @@ impl Journey {
 
     // The gate after one more cycle.
     pub fn step(&mut self) -> Row
-        ensures goes { self.new.gate ≡ cycled idle self.old.gate }
+        ensures goes { self.new.gate ≡ cycled still self.old.gate }
         ensures paced { Paced self.old.gate self.new.gate }
         ensures shown { Shown self.new.gate result }
     {

@@ -1,8 +1,8 @@
 use Rattle.std.proofs.Common.{get_or, refl, ap, ◌∙◌, rules}
 use Rattle.gate.specs.Orders.{long_answer, long_fits, ran_long}
-use Rattle.board.specs.Acts.{blank, heard_range}
+use Rattle.board.specs.Acts.{blank}
 use Rattle.board.specs.Own.{told_long, joined}
-use Rattle.board.proofs.Tables.{sound_at, fit_set, entered, heard_answer}
+use Rattle.board.proofs.Tables.{sound_at, fit_set, entered, heard_range, heard_answer}
 use Rattle.board.proofs.table.Table.run_long.Goals as goal
 
 pub returns : goal.returns

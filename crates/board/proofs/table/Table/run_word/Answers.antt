@@ -1,8 +1,7 @@
 use Rattle.std.proofs.Common.{refl, ap, ◌∙◌, rules}
 use Rattle.gate.specs.Orders.{word_fits}
-use Rattle.board.specs.Acts.{heard_range}
 use Rattle.board.specs.Own.{told_word}
-use Rattle.board.proofs.Tables.{sound_at, fit_set, entered, heard_answer}
+use Rattle.board.proofs.Tables.{sound_at, fit_set, entered, heard_range, heard_answer}
 use Rattle.board.proofs.table.Table.run_word.Goals as goal
 
 pub returns : goal.returns
