@@ -789,6 +789,30 @@ pub fn timed() -> Vec<Timed> {
     lists
 }
 
+/// The dearest cycle, in which each gate's search asks all it may, and the same list without that
+/// cycle.
+pub fn dearest() -> [Timed; 2] {
+    [("dearest", 1), ("dearest, before", 0)].map(|(name, cycles)| {
+        let mut timing = Timing {
+            maker: Maker::new(Rng::new(1, 1), false),
+            runs: false,
+        };
+        timing.power();
+        for gate in 1..=2 {
+            timing.select(gate);
+            timing.send(0x10, 16_000);
+            timing.send(0x11, END - 1);
+            timing.send(0x12, -END);
+        }
+        timing.send_word(0x5b, 3);
+        timing.cycles(cycles);
+        Timed {
+            name: name.to_string(),
+            list: timing.end(),
+        }
+    })
+}
+
 /// A list to be timed, in the making; both gates of board a do the same kind of thing.
 struct Timing {
     maker: Maker,

@@ -11,7 +11,7 @@ mod words;
 use std::env;
 use std::process::ExitCode;
 
-const USAGE: &str = "usage: bench compare [ACTS [SEED]] | bench time";
+const USAGE: &str = "usage: bench compare [ACTS [SEED]] | bench time | bench play BOARD KIND";
 const ACTS: u64 = 10_000_000;
 const SEED: u64 = 1;
 
@@ -29,6 +29,7 @@ fn main() -> ExitCode {
             _ => usage(),
         },
         ["time"] => timing::time(),
+        ["play", board, kind] => timing::play(board, kind),
         _ => usage(),
     }
 }

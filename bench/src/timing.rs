@@ -98,3 +98,22 @@ fn ns(play: fn(&[u8], &mut [u8]) -> u32, list: &List, out: &mut [u8]) -> f64 {
     assert_eq!(code, 0, "a list to be timed is played to its end");
     time.as_nanos() as f64
 }
+
+/// Plays one list by one board, so that its instructions can be counted from outside, and says by
+/// what they are to be divided.
+pub fn play(board: &str, kind: &str) -> ExitCode {
+    let play = match board {
+        "plain" => replay,
+        "other" => foreign::replay,
+        _ => return ExitCode::from(2),
+    };
+    let mut lists = lists::timed().into_iter().chain(lists::dearest());
+    let Some(Timed { list, .. }) = lists.find(|timed| timed.name == kind) else {
+        return ExitCode::from(2);
+    };
+    let mut out = vec![0; list.room];
+    ns(play, &list, &mut out);
+    let (each, count) = unit(&list);
+    println!("{count} {each}");
+    ExitCode::SUCCESS
+}
