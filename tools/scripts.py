@@ -1,0 +1,150 @@
+#!/usr/bin/env python3
+"""Plays random scripts, many of their lines damaged, by the console and by the boards of console.py, and compares every answer, which lines
+are reported and the status. Lines are told apart here by docs/SCRIPT.md alone.
+
+    python3 tools/scripts.py [SCRIPTS [SEED]]      after one ./run, which builds the console
+"""
+import os
+import random
+import re
+import subprocess
+import sys
+
+from console import CODES, NO_WORDS, STEPS, TAKES, Board, Refused, played
+
+CONSOLE = os.path.join(os.path.dirname(os.path.dirname(os.path.abspath(__file__))), "crates", "console", "out", "console")
+EDGES = {1: (-32768, -1, 0, 1, 3, 4, 127, 32767, 32768, 65535), 2: (-(2**31), -(2**30) - 1, -(2**30), -1, 0, 1, 40000, 65536, 2**30 - 1, 2**30, 2**32 - 1)}
+BAD = ("", "x", "0x", "-0x1", "0x+1", "+-1", "--1", "1.0", "1e3", "4294967296", "-2147483649", "99999999999999999999", "０", "a", "b", "-", "pn", "#", "SET_pos")
+VERBS = ("board", "command", "write", "read", "cycle", "run", "reset", "take", "close", "pairs", *CODES)
+
+
+def number(text):
+    """The number that a word writes, or none."""
+    if re.fullmatch(r"0x[0-9a-fA-F]+", text):
+        return int(text[2:], 16)
+    return int(text) if re.fullmatch(r"[+-]?[0-9]+", text) else None
+
+
+def within(text, low, high):
+    value = number(text)
+    return value is not None and low <= value <= high
+
+
+def word(text):
+    return within(text, -32768, 65535)
+
+
+def inputs(rest):
+    return all(within(rest[i], -32768, 32767) and re.fullmatch(r"-|[pnh]+", rest[i + 1]) for i in (0, 2))
+
+
+def readable(words):
+    """Whether the words are a line of a script."""
+    verb, *rest = words
+    if verb in TAKES:
+        low, high = ((-32768, 65535), (-(2**31), 2**32 - 1))[TAKES[verb][1] - 1]
+        return len(rest) == 1 and within(rest[0], low, high)
+    return {
+        "board": lambda: rest in (["a"], ["b"]),
+        "command": lambda: len(rest) == 1 and (rest[0] in CODES or within(rest[0], 0, 255)),
+        "write": lambda: len(rest) == 1 and word(rest[0]),
+        "cycle": lambda: not rest or len(rest) == 4 and inputs(rest),
+        "run": lambda: len(rest) == 1 and within(rest[0], 0, 2**32 - 1),
+        "close": lambda: len(rest) == 2 and within(rest[0], 1, 2) and word(rest[1]),
+    }.get(verb, lambda: not rest and (verb in CODES or verb in ("read", "reset", "take", "pairs")))()
+
+
+def written(rng, value):
+    return rng.choice((str(value), f"+{value}", hex(value), hex(value).upper().replace("X", "x")) if value >= 0 else (str(value),))
+
+
+def value(rng, width):
+    return written(rng, rng.choice(EDGES[width]) if rng.random() < 0.5 else rng.randrange(100_000))
+
+
+def good(rng):
+    """A line as it should be."""
+    verb = rng.choice(VERBS if rng.random() < 0.6 else ("cycle", "run", "take", "close", "command", "write", "read"))
+    if verb in TAKES:
+        return [verb, value(rng, TAKES[verb][1])]
+    if verb == "command":
+        return [verb, rng.choice((rng.choice(list(CODES)), written(rng, rng.randrange(256))))]
+    if verb == "cycle" and rng.random() < 0.7:
+        return [verb, *(w for _ in (1, 2) for w in (written(rng, rng.choice((-32768, -5, 0, 7, 32767))), rng.choice(("-", "p", "n", "h", "pn", "hp", "pnh"))))]
+    more = {"board": lambda: [rng.choice("ab")], "write": lambda: [value(rng, 1)], "run": lambda: [str(rng.randrange(60))],
+            "close": lambda: [rng.choice("12"), value(rng, 1)]}
+    return [verb, *more.get(verb, list)()]
+
+
+def damaged(rng, words):
+    """The line with one thing wrong, as it may be."""
+    words, at = list(words), rng.randrange(len(words))
+    how = rng.randrange(5)
+    if how == 0:
+        del words[at]
+    elif how == 1:
+        words.insert(at + 1, rng.choice(BAD))
+    elif how == 2:
+        words[at] = rng.choice(BAD)
+    elif how == 3:
+        words[at] = words[at].swapcase()
+    else:
+        words[at] = words[at][: rng.randrange(len(words[at]) + 1)]
+    return words
+
+
+def script(rng):
+    lines = []
+    for _ in range(rng.randrange(1, 120)):
+        words = good(rng)
+        if rng.random() < 0.25:
+            words = damaged(rng, words)
+        # a run of many cycles would only take long
+        if words[:1] == ["run"] and words[1:] and (number(words[1]) or 0) > 1000 and readable(words):
+            continue
+        lines.append(rng.choice((" ", "\t", "  ")).join(words) + rng.choice(("", "", " # note", "#")))
+    return lines
+
+
+def expected(lines):
+    """What is to be answered, and which lines cannot be read."""
+    boards, at, answers, faults = {"a": Board(STEPS["dac"]), "b": Board(STEPS["pwm"])}, "a", [], []
+    for n, line in enumerate(lines, 1):
+        words = line.split("#")[0].split()
+        if not words:
+            continue
+        if not readable(words):
+            faults.append(n)
+        elif words[0] == "board":
+            at = words[1]
+        else:
+            try:
+                answers.append(played(boards[at], [w.lstrip("+") for w in words]))
+            except Refused as refusal:
+                answers.append(f"refused {refusal}")
+    return answers, faults
+
+
+def main():
+    count, seed = [int(word) for word in sys.argv[1:3]] + [300, 1][len(sys.argv) - 1 :]
+    rng = random.Random(seed)
+    lines_played = lines_faulty = 0
+    for n in range(count):
+        lines = script(rng)
+        answers, faults = expected(lines)
+        if not any(line.split("#")[0].split() for line in lines):
+            continue
+        done = subprocess.run([CONSOLE, "-"], input="\n".join(lines), capture_output=True, text=True)
+        told = [int(m) for m in re.findall(r"^line (\d+): expected ", done.stderr, re.M)]
+        if (done.stdout.splitlines(), told, done.returncode) != (answers, faults, 1 if faults else 0):
+            print("\n".join(lines))
+            print(f"script {n} differs: {done.stdout.splitlines()} {told} {done.returncode}, not {answers} {faults}")
+            return 1
+        lines_played += len(answers)
+        lines_faulty += len(faults)
+    print(f"{count} scripts, {lines_played} answers, {lines_faulty} lines that cannot be read; no difference")
+    return 0
+
+
+if __name__ == "__main__":
+    sys.exit(main())
