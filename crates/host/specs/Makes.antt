@@ -14,10 +14,10 @@ abbrev pub Names : List ℕ → Option Make → Type 0
 Names word (Some make) = word ≡ name_of make
 Names word None = (make : Make) → word ≢ name_of make
 
--- two names with a comma between them
+-- the makes that two names with a comma between them name, or none, where the text is no such names
 abbrev pub Both : List ℕ → Option (Make × Make) → Type 0
 Both text (Some p) = text ≡ name_of p.0 ++ (codes "," ++ name_of p.1)
-Both text None = Unit {0}
+Both text None = (p : Make × Make) → text ≢ name_of p.0 ++ (codes "," ++ name_of p.1)
 
 -- the makes of board a and board b, or none, where the text names no two
 abbrev pub pair_of : Result Makes Unnamed → Option (Make × Make)
