@@ -36,6 +36,11 @@ pub record Measured (s : Settings) (wire : Wire) (position : ℤ) (r : Row) : Ty
 abbrev pub wired_shows : Wiring (Levels Lines) → Pairs
 wired_shows w = undone_pairs w.one w.two (pwm_pairs w.below)
 
+-- both stages show gate 1 what they keep of the phases of the motor at a position
+pub record Driven (s : Settings) (position : ℤ) (d : Levels Word) (w : Wiring (Levels Lines)) : Type 0 where
+  pub dac : (dac_pairs d).one ≡ cuts 1 (phases s.kind s.power position)
+  pub pwm : (wired_shows w).one ≡ cuts 128 (phases s.kind s.power position)
+
 -- gate 2 is not driven: no stage shows anything else of it than before
 pub record Spared (d e : Levels Word) (w x : Wiring (Levels Lines)) : Type 0 where
   pub dac : (dac_pairs e).two ≡ (dac_pairs d).two

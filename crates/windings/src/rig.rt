@@ -2,7 +2,7 @@ ghost use Rattle.std.specs.Prelude.{◌≡◌};
 ghost use Rattle.stage.specs.Dac.{dac_pairs};
 ghost use Rattle.stage.specs.Pairs.{dark, pair_of};
 ghost use Rattle.stage.specs.Pwm.{pwm_pairs};
-ghost use Rattle.windings.specs.Rows.{Measured, Spared, spoken};
+ghost use Rattle.windings.specs.Rows.{Driven, Measured, Spared, spoken};
 
 use crate::row::{HEADING, Row};
 use crate::settings::Settings;
@@ -54,6 +54,7 @@ impl Rig {
     // Steps the motor to a position, and measures what comes of it. Gate 2 is left alone.
     pub fn step(&mut self, position: i32) -> Row
         ensures measured { Measured self.old.settings self.old.pwm.one position result }
+        ensures driven { Driven self.old.settings position self.new.dac self.new.pwm }
         ensures kept { (self.new.settings ≡ self.old.settings) × (self.new.pwm.one ≡ self.old.pwm.one) × (self.new.pwm.two ≡ self.old.pwm.two) }
         ensures spared { Spared self.old.dac self.new.dac self.old.pwm self.new.pwm }
     {
