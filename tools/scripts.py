@@ -3,6 +3,8 @@
 are reported and the status. Lines are told apart here by docs/SCRIPT.md alone.
 
     python3 tools/scripts.py [SCRIPTS [SEED]]      after one ./run, which builds the console
+    python3 tools/scripts.py FILE                  prints what is to be answered to one script
+    python3 tools/scripts.py crates/example_faults/data/faults.txt > crates/example_faults/stdout
 """
 import os
 import random
@@ -50,7 +52,7 @@ def readable(words):
         "write": lambda: len(rest) == 1 and word(rest[0]),
         "cycle": lambda: not rest or len(rest) == 4 and inputs(rest),
         "run": lambda: len(rest) == 1 and within(rest[0], 0, 2**32 - 1),
-        "close": lambda: len(rest) == 2 and within(rest[0], 1, 2) and word(rest[1]),
+        "close": lambda: len(rest) == 2 and rest[0] in ("1", "2") and word(rest[1]),
     }.get(verb, lambda: not rest and (verb in CODES or verb in ("read", "reset", "take", "pairs")))()
 
 
@@ -72,7 +74,7 @@ def good(rng):
     if verb == "cycle" and rng.random() < 0.7:
         return [verb, *(w for _ in (1, 2) for w in (written(rng, rng.choice((-32768, -5, 0, 7, 32767))), rng.choice(("-", "p", "n", "h", "pn", "hp", "pnh"))))]
     more = {"board": lambda: [rng.choice("ab")], "write": lambda: [value(rng, 1)], "run": lambda: [str(rng.randrange(60))],
-            "close": lambda: [rng.choice("12"), value(rng, 1)]}
+            "close": lambda: [rng.choice(("1", "2", "1", "2", "+1", "0x2", "01")), value(rng, 1)]}
     return [verb, *more.get(verb, list)()]
 
 
@@ -126,6 +128,9 @@ def expected(lines):
 
 
 def main():
+    if sys.argv[1:] and os.path.exists(sys.argv[1]):
+        print("\n".join(expected(open(sys.argv[1]).read().splitlines())[0]))
+        return 0
     count, seed = [int(word) for word in sys.argv[1:3]] + [300, 1][len(sys.argv) - 1 :]
     rng = random.Random(seed)
     lines_played = lines_faulty = 0

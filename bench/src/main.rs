@@ -11,7 +11,7 @@ mod words;
 use std::env;
 use std::process::ExitCode;
 
-const USAGE: &str = "usage: bench compare [ACTS [SEED]] | bench time | bench play BOARD KIND";
+const USAGE: &str = "usage: bench/run [compare [ACTS [SEED]] | time | count]; the program alone also takes play plain|other KIND";
 const ACTS: u64 = 10_000_000;
 const SEED: u64 = 1;
 

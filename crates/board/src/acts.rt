@@ -63,7 +63,7 @@ impl Table {
         }
     }
 
-    // Counts an UPDATE for each gate whose bit is set.
+    // Counts an UPDATE for each gate whose bit is set, and closes the packet.
     fn multi_update(&mut self, word: u16)
         requires fit { Fit self.old }
         requires word { word < 4 }

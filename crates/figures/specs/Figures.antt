@@ -1,4 +1,4 @@
--- The worked figures of the shop: what a gate, its phases, a stage and the port must give at known values.
+-- Worked figures: what a gate, its phases, a stage and the port must give at known values.
 use Rattle.std.specs.Prelude.{◌≡◌, List, [], ◌∷◌, true, false, ℕ, eqb, ℤ, pos, neg_ℤ, nat_abs, ◌*ℤ◌}
 use Rattle.wave.specs.declared.phases.MotorKind.TheVariants.{TwoPhase}
 use Rattle.wave.specs.Phases.{phases}

@@ -1,4 +1,4 @@
-// The worked figures of the shop, proved together.
+// Worked figures, proved together.
 #![tactic(auto)]
 
 ghost use Rattle.std.specs.Prelude.{◌≡◌, length};

@@ -7,7 +7,7 @@ ghost use Rattle.std.proofs.Common.{rules};
 use stage::Stage;
 use stage::cut::cut;
 
-// A stage that keeps its numbers as they are shown, in multiples of its grain: of N, but at least of 1 and at most of 128. It is
+// A stage that keeps its numbers as they are shown, in multiples of its step: of N, but at least of 1 and at most of 128. It is
 // no form of the crate `stage`, since this crate is there to try a make that implements `Stage` itself.
 #[derive(Clone, Copy)]
 pub struct Plate<const N: u8> {

@@ -34,7 +34,7 @@ pub fn seen(gate: &Gate) -> (i32, i64, u16)
     (gate.motion.velocity, gate.motion.target, gate.status(0))
 }
 
-// Holds idle cycles to their rows.
+// Holds still cycles to their rows.
 pub fn follows(rt: &impl Abort, mut gate: Gate, rows: &[(i32, i64, u16)]) -> Result<(), Fail>
     requires { Sound gate }
 {

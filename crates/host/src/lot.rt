@@ -2,7 +2,7 @@ use gate::gate::Gate;
 use motion::course::MICROSTEP;
 use std::fmt;
 
-// A lot of olives: where its gate is sent, and the time at which the gate sets off.
+// A lot of olives: where its gate is sent, and the time at which a breakpoint latches that.
 #[derive(Clone, Copy, Debug, PartialEq, Eq)]
 pub struct Lot {
     pub destination: i32,

@@ -64,8 +64,9 @@ impl Rate {
         low
     }
 
-    // The greatest speed up to `top` whose reach is at most the distance, but at least the floor. The first question is the top, the second
-    // whether more than the floor fits, so that a gate that slows all it can asks no third; none asks more than 31.
+    // The greatest speed up to `top` whose reach is at most the distance, but at least the floor. The first question is the top. The second
+    // is whether more than the floor fits, so that a gate that slows all it can asks no third, unless the top lies more than SPAN above:
+    // then it is the speed that lies SPAN below the top. None asks more than 31.
     #[tactic(auto, using(crate::proofs::Falling::reach_zero, crate::proofs::Fastest::largest_all, crate::proofs::Fastest::largest_below, crate::proofs::Fastest::largest_found))]
     pub fn largest(self, distance: u64, floor: u32, top: u32) -> u32
         requires floor { floor < 2 ^ 30 }

@@ -7,6 +7,7 @@ pub mod turns;
 #[cfg(test)]
 mod tests {
     use crate::round::serve;
+    use crate::turns::{Served, serve_in_turn};
     use board::board::Board;
     use board::board::compare::compare;
     use board::refusal::Refusal;
@@ -91,5 +92,20 @@ mod tests {
         assert_eq!(rt; serve(&mut left, 0xfffe), None);
         assert_eq!(rt; serve(&mut right, 0xffff), Some(1));
         Ok(())
+    }
+
+    // Both gates call, each by a command error; the second word clears nothing, so gate 2 still calls.
+    #[test]
+    fn in_turn(rt: HostRuntime) {
+        let mut board = Board::new(Pwm::new());
+        for code in [0x01, 0x02] {
+            assert_eq!(rt; board.command(code), Ok(()));
+            assert!(rt; board.read().is_ok());
+            assert_eq!(rt; word(&mut board, 0x2f, 0x80), Ok(()));
+            assert_eq!(rt; word(&mut board, 0x62, 0x8000), Err(Refusal::OutOfRange));
+        }
+        assert_eq!(rt; serve_in_turn(&mut board, 0xff7f, 0xffff), Served::Both);
+        assert_eq!(rt; serve_in_turn(&mut board, 0xff7f, 0), Served::One);
+        assert_eq!(rt; serve_in_turn(&mut board, 0, 0), Served::Neither);
     }
 }

@@ -43,7 +43,7 @@ impl Journey {
         Ok(Journey { gate })
     }
 
-    // The gate after one more cycle.
+    // Runs one more cycle, and answers its line.
     pub fn step(&mut self) -> Row
         ensures goes { self.new.gate ≡ cycled still self.old.gate }
         ensures paced { Paced self.old.gate self.new.gate }
