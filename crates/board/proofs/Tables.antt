@@ -99,9 +99,6 @@ module _ (t u : Table) (l r : Inputs) (x y : Gate) (two_long : length t.gates �
       back (a ∷ []) e = let no : ⊥ = omega arith in absurd no
       back (a ∷ b ∷ gs) e = refl
 
-  pub both_show : {A : Type 0} (f : Gate → A) (p q : A) → p ≡ f x → q ≡ f y → ◌≡◌ {A = A × A} (p, q) (f (get_or u.gates 0 blank), f (get_or u.gates 1 blank))
-  both_show f p q e d = cc (first_is, second_is)
-
   pub both_cycled : u.current ≡ t.current → u.port ≡ t.port → x ≡ cycled l (get_or t.gates 0 blank)
       → y ≡ cycled r (get_or (set t.gates 0 x) 1 blank) → state_of u ≡ after (state_of t) (act_cycle l r)
   both_cycled current port e d =

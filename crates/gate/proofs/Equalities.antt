@@ -4,10 +4,6 @@ use Rattle.std.proofs.lemmas.Bool.Decides.{Decides-eqb, Decides-int_eq, Decides-
 use Rattle.std.specs.contracts.prelude.BoolPartialEq.TheImpl as bool_eq
 use Rattle.wave.specs.declared.phases.MotorKind.{MotorKind}
 use Rattle.wave.specs.contracts.phases.MotorKindPartialEq.TheImpl as motor_kind_eq
-use Rattle.gate.specs.declared.profile.ProfileMode.{ProfileMode}
-use Rattle.gate.specs.contracts.profile.ProfileModePartialEq.TheImpl as profile_mode_eq
-use Rattle.gate.specs.declared.breakpoint.BreakMode.{BreakMode}
-use Rattle.gate.specs.contracts.breakpoint.BreakModePartialEq.TheImpl as break_mode_eq
 use Rattle.gate.specs.declared.profile.Profile.{Profile}
 use Rattle.gate.specs.contracts.profile.ProfilePartialEq.TheImpl as profile_eq
 use Rattle.gate.specs.declared.powers.Powers.{Powers}
@@ -27,12 +23,6 @@ use Rattle.gate.specs.contracts.gate.GatePartialEq.TheImpl as gate_eq
 
 pub bool_decides : (x y : Bool) → Decides ((bool_eq.ghosts).eq x y) (x ≡ y)
 bool_decides x y = search rules
-
-pub profile_mode_decides : (x y : ProfileMode) → Decides ((profile_mode_eq.ghosts).eq x y) (x ≡ y)
-profile_mode_decides x y = search rules
-
-pub break_mode_decides : (x y : BreakMode) → Decides ((break_mode_eq.ghosts).eq x y) (x ≡ y)
-break_mode_decides x y = search rules
 
 pub motor_kind_decides : (x y : MotorKind) → Decides ((motor_kind_eq.ghosts).eq x y) (x ≡ y)
 motor_kind_decides x y = search rules

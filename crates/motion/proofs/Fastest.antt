@@ -1,5 +1,5 @@
 -- The greatest speed that fits: that there is one, only one, and where the search finds it.
-use Rattle.std.proofs.Common.{◌≡◌, ℕ, zero, suc, ◌+◌, ◌<◌, ◌≤◌, Bool, true, false, cond, leb, ◌⊎◌, ap, inl, inr, eq-zero-or-pos, arith}
+use Rattle.std.proofs.Common.{◌≡◌, ℕ, zero, suc, ◌+◌, ◌<◌, ◌≤◌, Bool, true, false, cond, leb, ◌⊎◌, ap, inl, inr, arith}
 use lib.Arith.{le_of_le-suc-ne}
 use Rattle.std.proofs.lemmas.Bool.Decides.{leb_tells}
 use Rattle.motion.specs.Reach.{reach}
@@ -36,11 +36,6 @@ largest_only rate distance top s l =
       l.most (largest rate distance top) k.within k.fits,
       k.most s l.within l.fits,
     )
-
--- only a speed above 0 does not fit
-pub moving : (rate distance s : ℕ) → distance < reach rate s → 0 < s
-moving rate distance s h =
-    elim (eq-zero-or-pos s) [ inl e ↦ omega (arith, ap (reach rate) e, reach_zero rate) | inr p ↦ p ]
 
 -- a speed that fits, below one that does not
 pub largest_next : (rate distance top s : ℕ) → 0 < rate → s ≤ top → reach rate s ≤ distance → distance < reach rate (s + 1)

@@ -60,11 +60,6 @@ pub halts_there : (v d : ℤ) → d ≡ pos 0 → halts v d ≡ true
 unfolding halts
 halts_there v d e = rw e
 
--- a gate that cannot slow to what it may run at slows by all of `rate`
-pub pace_slowed : (u top rate distance : ℕ) → min top (u + rate) ≤ u - rate → pace u top rate distance ≡ u - rate
-unfolding pace
-pace_slowed u top rate distance h = omega (arith, (largest_is rate distance (min top (u + rate))).within)
-
 -- the next speed is no greater than the last and the greatest allowed
 pace_size : (u top rate distance : ℕ) → pace u top rate distance ≤ max u top
 unfolding pace
