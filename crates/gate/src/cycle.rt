@@ -6,7 +6,6 @@ ghost use Rattle.gate.specs.Sound.{Sound};
 use crate::breakpoint::BreakMode;
 use crate::gate::Gate;
 use crate::inputs::Inputs;
-use crate::limits::Detectors;
 use crate::profile::ProfileMode;
 use motion::course::{advanced, counted, cruise, distance, whole_steps};
 use motion::rate::Rate;

@@ -2,7 +2,6 @@ use script::boards::Boards;
 use script::line::Line;
 use script::reply::Answer;
 use stage::Stage;
-use std::alloc::Global;
 
 // A line of a script without its comment.
 fn uncommented(line: &str) -> &str {

@@ -1,5 +1,3 @@
-ghost use Rattle.std.specs.Prelude.{◌≡◌, Some};
-ghost use Rattle.board.specs.Commands.{code_table};
 ghost use Rattle.script.specs.Mnemonics.{Names};
 
 use board::command::{Command, Whose};
