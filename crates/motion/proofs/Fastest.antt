@@ -6,6 +6,10 @@ use Rattle.motion.specs.Reach.{reach}
 use Rattle.motion.specs.Speed.{largest, Largest}
 use Rattle.motion.proofs.Falling.{reach_zero, reach_mono}
 
+-- a speed is at most another, or at least the next
+either : (s t : ℕ) → (t ≤ s) ⊎ (s + 1 ≤ t)
+either s t = search arith
+
 -- one speed more to choose from: it fits and is the answer, or it does not
 step : (rate distance n : ℕ) (b : Bool) (s : ℕ) → Largest rate distance n s
     → ((b ≡ true) × (reach rate (suc n) ≤ distance)) ⊎ ((b ≡ false) × (distance < reach rate (suc n)))
@@ -41,10 +45,7 @@ largest_only rate distance top s l =
 pub largest_next : (rate distance top s : ℕ) → 0 < rate → s ≤ top → reach rate s ≤ distance → distance < reach rate (s + 1)
     → Largest rate distance top s
 largest_next rate distance top s h w f over =
-    record { within = w; fits = f; most = λ t _ k. elim (either t) [ inl g ↦ g | inr g ↦ omega (arith, reach_mono rate (s + 1) t h g) ] }
-  where
-    either : (t : ℕ) → (t ≤ s) ⊎ (s + 1 ≤ t)
-    either t = search arith
+    record { within = w; fits = f; most = λ t _ k. elim (either s t) [ inl g ↦ g | inr g ↦ omega (arith, reach_mono rate (s + 1) t h g) ] }
 
 -- a top that fits is the greatest
 pub largest_top : (rate distance top : ℕ) → reach rate top ≤ distance → Largest rate distance top top
@@ -57,13 +58,10 @@ largest_all rate distance top f = largest_only rate distance top top (largest_to
 pub largest_below : (rate distance top s : ℕ) → 0 < rate → distance < reach rate (s + 1) → largest rate distance top ≤ s
 largest_below rate distance top s h over =
     let fits = (largest_is rate distance top).fits in
-    elim (either (largest rate distance top)) [
+    elim (either s (largest rate distance top)) [
       | inl g ↦ g
       | inr g ↦ omega (arith, reach_mono rate (s + 1) (largest rate distance top) h g)
     ]
-  where
-    either : (t : ℕ) → (t ≤ s) ⊎ (s + 1 ≤ t)
-    either t = search arith
 
 pub largest_found : (rate distance top s : ℕ) → 0 < rate → s ≤ top → reach rate s ≤ distance → distance < reach rate (s + 1)
     → s ≡ largest rate distance top
