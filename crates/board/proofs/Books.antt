@@ -12,6 +12,7 @@ use Rattle.gate.specs.declared.profile.Profile.{Profile}
 use Rattle.gate.specs.Cycles.{clocked, encoded, tripped, meets, marked, cycled}
 use Rattle.gate.specs.Gates.{erred, latched}
 use Rattle.gate.specs.Orders.{ran, ran_word, ran_long, word_run, word_fits, long_run, long_fits}
+use Rattle.gate.proofs.Steps.{met_keeps}
 use Rattle.board.specs.Own.{Own, restart, tick, told, told_word, told_long, asked, viewed, taken, closed, joined, alone}
 use Rattle.board.specs.Isolation.{Book, book, book_order, book_long, copied, latches}
 
@@ -22,11 +23,6 @@ pub record Written (buffered active : Profile) (b : Book) : Type 0 where
 -- a gate's registers are those of a book
 abbrev pub Kept : Gate → Book → Type 0
 Kept g b = Written g.buffered g.active b
-
-met_buffered : (b c : Bool) (x : Gate) → (cond b (cond c (latched (marked x)) (marked x)) x).buffered ≡ x.buffered
-met_buffered true true x = refl
-met_buffered true false x = refl
-met_buffered false c x = refl
 
 met_active : (b c : Bool) (x : Gate) → (cond b (cond c (latched (marked x)) (marked x)) x).active ≡ cond (b && c) x.buffered x.active
 met_active true true x = refl
@@ -45,7 +41,7 @@ kept_tick : (i : Inputs) (g : Gate) (b : Book) → Kept g b → Kept (cycled i g
 kept_tick i g b k =
     let x = tripped i (encoded i.count (clocked g)) in
     record {
-      loaded = met_buffered (meets i.home x) g.breakpoint.auto x ∙ (k.loaded ∙ sym (book_loaded (latches i g) b));
+      loaded = met_keeps (λ y. y.buffered) i.home x refl refl ∙ (k.loaded ∙ sym (book_loaded (latches i g) b));
       latched =
           met_active (meets i.home x) g.breakpoint.auto x
           ∙ (ap (λ y. cond (latches i g) y g.active) k.loaded ∙ (ap (cond (latches i g) b.loaded) k.latched ∙ sym (book_latched (latches i g) b)));

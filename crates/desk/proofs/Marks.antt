@@ -7,9 +7,10 @@ use Rattle.gate.specs.declared.orders.WordOrder.{WordOrder}
 use Rattle.gate.specs.declared.orders.WordOrder.TheVariants as word
 use Rattle.gate.specs.declared.orders.LongOrder.{LongOrder}
 use Rattle.gate.specs.declared.orders.LongOrder.TheVariants as long
-use Rattle.gate.specs.Cycles.{clocked, encoded, tripped, meets, marked}
-use Rattle.gate.specs.Gates.{erred, latched}
+use Rattle.gate.specs.Cycles.{clocked, encoded, tripped}
+use Rattle.gate.specs.Gates.{erred}
 use Rattle.gate.specs.Orders.{ran, word_run, word_fits, long_run, long_fits}
+use Rattle.gate.proofs.Steps.{met_keeps}
 use Rattle.board.specs.declared.command.Command.{Command}
 use Rattle.board.specs.declared.command.Command.TheVariants.{Status, Ask, Now, Word, Long, MultiUpdate}
 use Rattle.board.specs.declared.port.Port.{Port}
@@ -31,11 +32,6 @@ no_slip (asked q) = true
 no_slip (viewed w) = true
 no_slip taken = false
 no_slip (closed w) = false
-
-met_slip : (b c : Bool) (x : Gate) → (cond b (cond c (latched (marked x)) (marked x)) x).slip ≡ x.slip
-met_slip true true x = refl
-met_slip true false x = refl
-met_slip false c x = refl
 
 order_slip : (o : Order) (g : Gate) → (ran o g).slip ≡ g.slip
 order_slip (Mode m) g = refl
@@ -62,7 +58,7 @@ long_slip o false v g = refl
 
 step_slip : (g : Gate) (e : Own) → no_slip e ≡ true → (step g e).slip ≡ g.slip
 step_slip g restart h = refl
-step_slip g (tick i) h = let x = tripped i (encoded i.count (clocked g)) in met_slip (meets i.home x) x.breakpoint.auto x
+step_slip g (tick i) h = met_keeps (λ x. x.slip) i.home (tripped i (encoded i.count (clocked g))) refl refl
 step_slip g (told o) h = order_slip o g
 step_slip g (told_word o w) h = word_slip o (word_fits o w) w g
 step_slip g (told_long o a b) h = long_slip o (long_fits o (joined a b)) (joined a b) g

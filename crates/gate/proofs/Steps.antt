@@ -19,7 +19,7 @@ chained i g g1 g2 g3 g4 g5 g6 e1 e2 e3 e4 e5 e6 =
     e6 ∙ ap settled (e5 ∙ ap moved (e4 ∙ ap (met i.home) (e3 ∙ ap (tripped i) (e2 ∙ ap (encoded i.count) e1))))
 
 -- what neither a mark nor a latch changes, a breakpoint leaves
-met_keeps : {A : Type 0} (f : Gate → A) (home : Bool) (g : Gate) → f (marked g) ≡ f g → f (latched (marked g)) ≡ f g → f (met home g) ≡ f g
+pub met_keeps : {A : Type 0} (f : Gate → A) (home : Bool) (g : Gate) → f (marked g) ≡ f g → f (latched (marked g)) ≡ f g → f (met home g) ≡ f g
 met_keeps f home g m l = by (meets home g) g.breakpoint.auto
   where
     by : (b c : Bool) → f (cond b (cond c (latched (marked g)) (marked g)) g) ≡ f g
