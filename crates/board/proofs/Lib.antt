@@ -1,5 +1,6 @@
 pub mod Tables
 pub mod Owed
+pub mod Moves
 pub mod Lists
 pub mod Books
 pub mod Alike

@@ -1,22 +1,19 @@
 -- A gate of a board is its own list, replayed.
-use Rattle.std.proofs.Common.{◌≡◌, ℕ, ◌<◌, Bool, true, false, cond, eqb, ltb, List, [], ◌∷◌, ◌++◌, map, pos, Some, None, Option, sym, refl, ap, ◌∙◌, arith, eqb-true}
+use Rattle.std.proofs.Common.{◌≡◌, ℕ, ◌<◌, Bool, true, false, cond, eqb, List, [], ◌∷◌, ◌++◌, map, pos, sym, refl, ap, ◌∙◌, eqb-true}
 use Rattle.stage.specs.Pairs.{Pair, dark}
 use Rattle.gate.specs.declared.gate.Gate.{Gate}
 use Rattle.gate.specs.declared.orders.Order.TheVariants.{Update}
 use Rattle.gate.specs.Cycles.{shows}
 use Rattle.gate.specs.Gates.{fresh}
 use Rattle.gate.specs.Orders.{word_fits, long_fits}
-use Rattle.board.specs.declared.command.Command.{Command}
-use Rattle.board.specs.declared.command.Command.TheVariants.{Status, Ask, Now, Word, Long, MultiUpdate}
-use Rattle.board.specs.declared.port.Port.{Port}
-use Rattle.board.specs.declared.port.Port.TheVariants.{Idle, TakingWord, TakingHigh, TakingLow, TakingGates, Giving}
 use Rattle.board.specs.declared.refusal.Refusal.TheVariants.{NoSlip}
 use Rattle.board.specs.Commands.{decoded}
 use Rattle.board.specs.Own.{ran_or_not, Own, restart, tick, told, told_word, told_long, asked, viewed, taken, closed, Answer, joined, step, reply, replay, alone}
-use Rattle.board.specs.Acts.{spoken, counts, whose, lendable, enters_if, starts, on_command, on_write, on_read, State, gate_of, Act, act_command, act_write, act_read, act_cycle, act_reset, act_take, act_close, Move, held, opens, enters, updates, unfit, gives, ticks, restarts, move, moved, entries}
+use Rattle.board.specs.Acts.{spoken, counts, lendable, State, gate_of, Act, act_command, act_write, act_read, act_cycle, act_reset, act_take, act_close, Move, held, opens, enters, updates, unfit, gives, ticks, restarts, move, moved, entries}
 use Rattle.board.specs.Runs.{state_after, given, given_after}
 use Rattle.board.specs.Isolation.{own, answer_to, heard, shown_of}
 use Rattle.board.proofs.Tables.{by_two}
+use Rattle.board.proofs.Moves.{Ordinary, by_one, by_if, by_command, by_write, by_read}
 
 replay-++ : (es ds : List Own) (g : Gate) → replay (es ++ ds) g ≡ replay es (replay ds g)
 replay-++ [] ds g = refl
@@ -96,109 +93,23 @@ display (viewed w ∷ es) = display es
 display (taken ∷ es) = display es
 display (closed w ∷ es) = display es
 
--- an entry, and a move, that gives the stage nothing
-abbrev pub plain_entry : Own → Bool
-plain_entry restart = false
-plain_entry (tick i) = false
-plain_entry (told o) = true
-plain_entry (told_word o w) = true
-plain_entry (told_long o h l) = true
-plain_entry (asked q) = true
-plain_entry (viewed w) = true
-plain_entry taken = true
-plain_entry (closed w) = true
-
-abbrev pub plain : Move → Bool
-plain (held r) = true
-plain (opens p) = true
-plain (enters j e) = plain_entry e
-plain (updates w) = true
-plain unfit = true
-plain (gives w p) = true
-plain (ticks i j) = false
-plain restarts = false
-
-display_entry : (e : Own) (es : List Own) → plain_entry e ≡ true → display (e ∷ es) ≡ display es
-display_entry restart es h = cc
-display_entry (tick i) es h = let no : ◌≡◌ {A = ℕ} 0 1 = cc in absurd (omega arith)
-display_entry (told o) es h = refl
-display_entry (told_word o w) es h = refl
-display_entry (told_long o a b) es h = refl
-display_entry (asked q) es h = refl
-display_entry (viewed w) es h = refl
-display_entry taken es h = refl
-display_entry (closed w) es h = refl
-
-display_plain : (k : ℕ) (m : Move) (es : List Own) → plain m ≡ true → display (entries k m ++ es) ≡ display es
-display_plain k (held r) es h = refl
-display_plain k (opens p) es h = refl
-display_plain k (enters j e) es h = go (eqb j k)
-  where
-    go : (b : Bool) → display (cond b (e ∷ []) [] ++ es) ≡ display es
-    go true = display_entry e es h
-    go false = refl
-display_plain k (updates w) es h = go (counts w k)
-  where
-    go : (b : Bool) → display (cond b (told Update ∷ []) [] ++ es) ≡ display es
-    go true = refl
-    go false = refl
-display_plain k unfit es h = refl
-display_plain k (gives w p) es h = refl
-display_plain k (ticks i j) es h = let no : ◌≡◌ {A = ℕ} 0 1 = cc in absurd (omega arith)
-display_plain k restarts es h = let no : ◌≡◌ {A = ℕ} 0 1 = cc in absurd (omega arith)
-
-plain_if : (o : Option ℕ) (e : Own) → plain_entry e ≡ true → plain (enters_if o e) ≡ true
-plain_if (Some k) e h = h
-plain_if None e h = refl
-
-plain_cond : (b : Bool) (m n : Move) → plain m ≡ true → plain n ≡ true → plain (cond b m n) ≡ true
-plain_cond true m n p q = p
-plain_cond false m n p q = q
-
-plain_starts : (s : State) (c : Option Command) → plain (starts s c) ≡ true
-plain_starts s (Some (Status w)) = plain_if (whose s w) (viewed w) refl
-plain_starts s (Some (Ask q)) = refl
-plain_starts s (Some (Now o)) = refl
-plain_starts s (Some (Word o)) = refl
-plain_starts s (Some (Long o)) = refl
-plain_starts s (Some MultiUpdate) = refl
-plain_starts s None = refl
-
-plain_command : (s : State) (p : Port) (c : Option Command) → plain (on_command s p c) ≡ true
-plain_command s Idle c = plain_starts s c
-plain_command s (TakingWord o) c = refl
-plain_command s (TakingHigh o) c = refl
-plain_command s (TakingLow o h) c = refl
-plain_command s TakingGates c = refl
-plain_command s (Giving w t) c = refl
-
-plain_write : (s : State) (p : Port) (w : ℕ) → plain (on_write s p w) ≡ true
-plain_write s Idle w = refl
-plain_write s (TakingWord o) w = refl
-plain_write s (TakingHigh o) w = refl
-plain_write s (TakingLow o h) w = refl
-plain_write s TakingGates w = plain_cond (ltb w 4) (updates w) unfit refl refl
-plain_write s (Giving a t) w = refl
-
-plain_read : (p : Port) → plain (on_read p) ≡ true
-plain_read Idle = refl
-plain_read (TakingWord o) = refl
-plain_read (TakingHigh o) = refl
-plain_read (TakingLow o h) = refl
-plain_read TakingGates = refl
-plain_read (Giving w t) = refl
+-- an order or a question gives the stage nothing
+displays : (es : List Own) → Ordinary (λ l. display (l ++ es) ≡ display es)
+displays es = record { none = refl; orders = λ _. refl; words = λ _ _. refl; longs = λ _ _ _. refl; asks = λ _. refl; views = λ _. refl }
 
 -- what a board last gave the stage for gate k is what the gate alone gave
 pub displayed : (k : ℕ) → k < 2 → (h : List Act) → shown_of (given_after h) k ≡ display (own k h)
 displayed k l [] = by_two (λ k. shown_of dark k ≡ (pos 0, pos 0)) refl refl k l
-displayed k l (act_command b ∷ h) = displayed k l h ∙ sym (display_plain k (move (state_after h) (act_command b)) (own k h) (plain_command (state_after h) (state_after h).port (decoded b)))
-displayed k l (act_write w ∷ h) = displayed k l h ∙ sym (display_plain k (move (state_after h) (act_write w)) (own k h) (plain_write (state_after h) (state_after h).port w))
-displayed k l (act_read ∷ h) = displayed k l h ∙ sym (display_plain k (move (state_after h) act_read) (own k h) (plain_read (state_after h).port))
+displayed k l (act_command b ∷ h) = displayed k l h ∙ sym (by_command (displays (own k h)) k (state_after h) (state_after h).port (decoded b))
+displayed k l (act_write w ∷ h) = displayed k l h ∙ sym (by_write (displays (own k h)) k (state_after h) (state_after h).port w)
+displayed k l (act_read ∷ h) = displayed k l h ∙ sym (by_read (displays (own k h)) k (state_after h).port)
 displayed k l (act_cycle i j ∷ h) =
     by_two (λ k. shown_of (given (state_after h) (act_cycle i j) dark) k ≡ shows (gate_of (state_after (act_cycle i j ∷ h)) k)) refl refl k l
     ∙ ap shows (replayed k l (act_cycle i j ∷ h))
 displayed k l (act_reset ∷ h) = by_two (λ k. shown_of dark k ≡ (pos 0, pos 0)) refl refl k l
-displayed k l (act_take ∷ h) = displayed k l h ∙ sym (display_plain k (move (state_after h) act_take) (own k h) (plain_if (lendable (state_after h)) taken refl))
-displayed k l (act_close j w ∷ h) =
-    displayed k l h
-    ∙ sym (display_plain k (move (state_after h) (act_close j w)) (own k h) (plain_cond (gate_of (state_after h) j).slip (enters j (closed w)) (held NoSlip) refl refl))
+displayed k l (act_take ∷ h) = displayed k l h ∙ sym (by_if (displays (own k h)) k (lendable (state_after h)) taken refl)
+displayed k l (act_close j w ∷ h) = displayed k l h ∙ sym (by_slip (gate_of (state_after h) j).slip)
+  where
+    by_slip : (t : Bool) → display (entries k (cond t (enters j (closed w)) (held NoSlip)) ++ own k h) ≡ display (own k h)
+    by_slip true = by_one (displays (own k h)) (eqb j k) (closed w) refl
+    by_slip false = refl
