@@ -3,7 +3,7 @@ use Rattle.std.proofs.Common.{◌≡◌, ℕ, suc, ◌<◌, ◌≤◌, max, fals
 use Rattle.std.proofs.lemmas.Int.{ints}
 use Rattle.stage.specs.declared.Stage.{Ghosts}
 use Rattle.stage.specs.Cut.{cut}
-use Rattle.stage.specs.Pairs.{Pair, Pairs}
+use Rattle.stage.specs.Pairs.{Pairs, cut_pair}
 use Rattle.stage.proofs.Cuts.{cut_size_near}
 use Rattle.gate.specs.Gates.{fresh}
 use Rattle.board.specs.declared.board.Board.{Board}
@@ -26,9 +26,6 @@ cut_near m n a b (negsuc x) =
     let p = cut_size_near m (suc x) a in
     let q = cut_size_near n (suc x) b in
     record { below = omega (arith, ints); above = omega (arith, ints) }
-
-abbrev pub cut_pair : ℕ → Pair → Pair
-cut_pair step p = (cut step p.0, cut step p.1)
 
 shown_cuts : (step : ℕ) (p : Pairs) (k : ℕ) → k < 2 → shown_of (cuts step p) k ≡ cut_pair step (shown_of p k)
 shown_cuts step p = by_two (λ k. shown_of (cuts step p) k ≡ cut_pair step (shown_of p k)) refl refl

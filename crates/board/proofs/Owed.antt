@@ -76,7 +76,7 @@ module _ {S : Type 0} (m : Ghosts S) where
 -- two shows, one for each gate
 pub shown_both : (step : ℕ) (p q r x : Pairs) (a b c d : ℤ) → q ≡ shown step p 1 a b → r ≡ shown step q 2 c d
     → a ≡ x.one.0 → b ≡ x.one.1 → c ≡ x.two.0 → d ≡ x.two.1 → r ≡ cuts step x
-shown_both step p q r x a b c d f s ea eb ec ed = cc
+shown_both step p q r x a b c d f s ea eb ec ed = s ∙ (ap (λ y. shown step y 2 c d) f ∙ cc (ea, eb, ec, ed))
 
 -- the numbers that a cycle answers are those of the gates after it
 pub shown_cycle : (r : Pair × Pair) (z s : State) → ◌≡◌ {A = Pair × Pair} r (shows z.one, shows z.two) → z ≡ s

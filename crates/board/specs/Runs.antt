@@ -1,8 +1,7 @@
 -- Histories: lists of acts, the newest first, and what each act owes.
 use Rattle.std.specs.Prelude.{◌≡◌, ℕ, false, List, [], ◌∷◌, Ok, Err, Result, ◌≢◌}
 use Rattle.stage.specs.declared.Stage.{Ghosts}
-use Rattle.stage.specs.Cut.{cut}
-use Rattle.stage.specs.Pairs.{Pairs, dark}
+use Rattle.stage.specs.Pairs.{Pairs, cut_pair, dark}
 use Rattle.gate.specs.Cycles.{shows}
 use Rattle.gate.specs.Gates.{fresh}
 use Rattle.board.specs.declared.refusal.Refusal.{Refusal}
@@ -46,7 +45,7 @@ given_after (a ∷ h) = given (state_after h) a (given_after h)
 
 -- what a stage of a step shows of numbers
 abbrev pub cuts : ℕ → Pairs → Pairs
-cuts step p = record { one = (cut step p.one.0, cut step p.one.1); two = (cut step p.two.0, cut step p.two.1) }
+cuts step p = record { one = cut_pair step p.one; two = cut_pair step p.two }
 
 -- a board, over a make m of stage
 module _ {S : Type 0} (m : Ghosts S) where

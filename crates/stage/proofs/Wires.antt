@@ -1,8 +1,7 @@
 -- What is shown through a wiring is seen above it.
 use Rattle.std.proofs.Common.{◌≡◌, ℕ, Bool, true, false, cond, eqb, ℤ, refl, arith}
 use Rattle.std.proofs.lemmas.Bool.Decides.{nat_tests}
-use Rattle.stage.specs.Cut.{cut}
-use Rattle.stage.specs.Pairs.{Pair, Pairs, shown}
+use Rattle.stage.specs.Pairs.{Pair, Pairs, cut_pair, shown}
 use Rattle.stage.specs.Wiring.{undone, undone_pairs}
 use Rattle.stage.specs.declared.wiring.Wire.{Wire}
 
@@ -13,11 +12,11 @@ seen_one w false below asked old h = refl
 
 module _ (step gate : ℕ) (one two wire : Wire) (p q : Pairs) (a b x y : ℤ) where
   -- both gates
-  pub seen : (gate ≡ 1 → wire ≡ one) → (gate ≡ 2 → wire ≡ two) → undone wire (cut step x, cut step y) ≡ (cut step a, cut step b)
+  pub seen : (gate ≡ 1 → wire ≡ one) → (gate ≡ 2 → wire ≡ two) → undone wire (cut_pair step (x, y)) ≡ cut_pair step (a, b)
       → q ≡ shown step p gate x y → undone_pairs one two q ≡ shown step (undone_pairs one two p) gate a b
   seen v w e h =
-      let below : Pair = (cut step x, cut step y) in
-      let asked : Pair = (cut step a, cut step b) in
+      let below = cut_pair step (x, y) in
+      let asked = cut_pair step (a, b) in
       let first : eqb gate 1 ≡ true → undone one below ≡ asked = λ t. grind (arith, nat_tests) in
       let second : eqb gate 2 ≡ true → undone two below ≡ asked = λ t. grind (arith, nat_tests) in
       let f = seen_one one (eqb gate 1) below asked p.one first in

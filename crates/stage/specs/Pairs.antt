@@ -24,12 +24,16 @@ is_gate gate = gate == 1 || gate == 2
 abbrev pub pair_of : Pairs → ℕ → Pair
 pair_of p gate = cond (gate == 1) p.one (cond (gate == 2) p.two zero_pair)
 
+-- what a stage of a step keeps of a pair
+abbrev pub cut_pair : ℕ → Pair → Pair
+cut_pair step p = (cut step p.0, cut step p.1)
+
 -- the pairs after a show: the gate's own is cut to the step, and the other stays
 abbrev pub shown : ℕ → Pairs → ℕ → ℤ → ℤ → Pairs
 shown step p gate a b =
     record {
-      one = cond (gate == 1) (cut step a, cut step b) p.one;
-      two = cond (gate == 2) (cut step a, cut step b) p.two;
+      one = cond (gate == 1) (cut_pair step (a, b)) p.one;
+      two = cond (gate == 2) (cut_pair step (a, b)) p.two;
     }
 
 -- no make holds more than this, so a number of a pair can be negated

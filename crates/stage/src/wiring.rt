@@ -1,6 +1,6 @@
 ghost use Rattle.std.specs.Prelude.{◌≡◌, ℕ, neg_ℤ};
 ghost use Rattle.stage.specs.Cut.{cut};
-ghost use Rattle.stage.specs.Pairs.{Bounded, shown};
+ghost use Rattle.stage.specs.Pairs.{Bounded, cut_pair, shown};
 ghost use Rattle.stage.specs.Wiring.{undone, undone_pairs};
 ghost use Rattle.std.proofs.Common.{rules};
 
@@ -54,7 +54,7 @@ fn opposite(x: i32) -> i32
 
 // What is to be shown below, so that the board's numbers are seen above.
 fn wired(wire: Wire, a: i32, b: i32) -> (i32, i32)
-    ensures { (step : ℕ) → undone wire (cut step result.0, cut step result.1) ≡ (cut step a, cut step b) }
+    ensures { (step : ℕ) → undone wire (cut_pair step result) ≡ cut_pair step (a, b) }
 {
     let a = if wire.negated { opposite(a) } else { a };
     if wire.exchanged { (b, a) } else { (a, b) }

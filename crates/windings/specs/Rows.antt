@@ -1,8 +1,7 @@
 -- What one line of a trial holds.
 use Rattle.std.specs.Prelude.{◌≡◌, ℕ, cond, ℤ}
-use Rattle.stage.specs.Cut.{cut}
 use Rattle.stage.specs.Dac.{number, dac_pairs}
-use Rattle.stage.specs.Pairs.{Pair, Pairs}
+use Rattle.stage.specs.Pairs.{Pair, Pairs, cut_pair}
 use Rattle.stage.specs.Pulse.{numbers}
 use Rattle.stage.specs.Pwm.{pwm_pairs}
 use Rattle.stage.specs.Wiring.{undone, undone_pairs}
@@ -16,9 +15,6 @@ use Rattle.wave.specs.Phases.{phases}
 use Rattle.windings.specs.declared.row.Row.{Row}
 use Rattle.windings.specs.declared.settings.Settings.{Settings}
 
-abbrev pub cuts : ℕ → Pair → Pair
-cuts step p = (cut step p.0, cut step p.1)
-
 -- the numbers that two DAC words stand for
 abbrev pub spoken : ℕ × ℕ → Pair
 spoken w = (number w.0, number w.1)
@@ -27,9 +23,9 @@ spoken w = (number w.0, number w.1)
 pub record Measured (s : Settings) (wire : Wire) (position : ℤ) (r : Row) : Type 0 where
   pub at : r.position ≡ position
   pub computed : r.phases ≡ phases s.kind s.power position
-  pub dac : r.dac ≡ cuts 1 (phases s.kind s.power position)
+  pub dac : r.dac ≡ cut_pair 1 (phases s.kind s.power position)
   pub words : spoken r.words ≡ r.dac
-  pub pwm : r.pwm ≡ cuts 128 (phases s.kind s.power position)
+  pub pwm : r.pwm ≡ cut_pair 128 (phases s.kind s.power position)
   pub pulses : undone wire (numbers r.pulses) ≡ r.pwm
 
 -- what a rig's PWM stage shows through its wiring
@@ -38,8 +34,8 @@ wired_shows w = undone_pairs w.one w.two (pwm_pairs w.below)
 
 -- both stages show gate 1 what they keep of the phases of the motor at a position
 pub record Driven (s : Settings) (position : ℤ) (d : Levels Word) (w : Wiring (Levels Lines)) : Type 0 where
-  pub dac : (dac_pairs d).one ≡ cuts 1 (phases s.kind s.power position)
-  pub pwm : (wired_shows w).one ≡ cuts 128 (phases s.kind s.power position)
+  pub dac : (dac_pairs d).one ≡ cut_pair 1 (phases s.kind s.power position)
+  pub pwm : (wired_shows w).one ≡ cut_pair 128 (phases s.kind s.power position)
 
 -- gate 2 is not driven: no stage shows anything else of it than before
 pub record Spared (d e : Levels Word) (w x : Wiring (Levels Lines)) : Type 0 where
