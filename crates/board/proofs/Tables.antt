@@ -1,7 +1,7 @@
 -- A table of two gates, by its numbers.
 use Rattle.std.proofs.Common.{◌≡◌, ℕ, zero, suc, ◌<◌, Bool, true, false, cond, eqb, List, [], ◌∷◌, Result, Ok, Err, length, get_or, set, Some, sym, refl, ap, ◌∙◌, subst, arith, lit<, eqb-true}
 use Rattle.gate.specs.declared.gate.Gate.{Gate}
-use Rattle.gate.specs.Orders.{answer}
+use Rattle.gate.specs.Orders.{checked}
 use Rattle.gate.specs.declared.orders.OutOfRange.{OutOfRange as Unfit}
 use Rattle.gate.specs.Sound.{Sound}
 use Rattle.gate.specs.declared.inputs.Inputs.{Inputs}
@@ -77,7 +77,7 @@ abbrev pub heard_range : Result (Unit {0}) Unfit → Answer
 heard_range (Ok _) = done
 heard_range (Err e) = refused OutOfRange
 
-pub heard_answer : (fits : Bool) → heard_range (answer fits) ≡ spoken (ran_or_not fits)
+pub heard_answer : (fits : Bool) → heard_range (checked fits tt) ≡ spoken (ran_or_not fits)
 heard_answer true = refl
 heard_answer false = refl
 

@@ -21,20 +21,9 @@ ran (Auto on) g = with_breakpoint g (record { mode = g.breakpoint.mode; point = 
 ran (Break m) g = with_breakpoint g (record { mode = m; point = g.breakpoint.point; auto = g.breakpoint.auto })
 ran (Motor kind) g = with_kind g kind
 
--- the answer to a value outside its range
-abbrev pub refused : Result (Unit {0}) OutOfRange
-refused = Err (record {})
-
-abbrev pub answer : Bool → Result (Unit {0}) OutOfRange
-answer fits = cond fits (Ok tt) refused
-
 -- a value if it fits, and the refusal if not
 abbrev pub checked : {A : Type 0} → Bool → A → Result A OutOfRange
 checked fits x = cond fits (Ok x) (Err (record {}))
-
--- the gate after an order that runs if its value fits
-abbrev pub tried : Bool → Gate → Gate → Gate
-tried fits after before = cond fits after before
 
 -- powers run from 0 to 32,767; any word clears, and any word masks
 abbrev pub word_fits : WordOrder → ℕ → Bool
@@ -50,7 +39,7 @@ word_run word.Status w g = with_events g (kept w g.events)
 word_run word.Mask w g = with_mask g w
 
 abbrev pub word_answer : WordOrder → ℕ → Result (Unit {0}) OutOfRange
-word_answer o w = answer (word_fits o w)
+word_answer o w = checked (word_fits o w) tt
 
 abbrev pub ran_word : WordOrder → ℕ → Gate → Gate
 ran_word o w g = cond (word_fits o w) (word_run o w g) (erred g)
@@ -75,7 +64,7 @@ long_run long.Point v g = with_breakpoint g (record { mode = g.breakpoint.mode; 
 long_run long.Actual v g = placed (to_z w32 v) g
 
 abbrev pub long_answer : LongOrder → ℕ → Result (Unit {0}) OutOfRange
-long_answer o v = answer (long_fits o v)
+long_answer o v = checked (long_fits o v) tt
 
 abbrev pub ran_long : LongOrder → ℕ → Gate → Gate
 ran_long o v g = cond (long_fits o v) (long_run o v g) (erred g)

@@ -1,7 +1,7 @@
-ghost use Rattle.std.specs.Prelude.{◌≡◌, true, false, nat_le};
+ghost use Rattle.std.specs.Prelude.{◌≡◌, true, false, cond, nat_le};
 ghost use Rattle.std.specs.Int.{w32};
 ghost use Rattle.std.proofs.Common.{to_z};
-ghost use Rattle.gate.specs.Orders.{checked, in_range, ran, tried, word_run, long_run, ran_word, ran_long, word_answer, long_answer, word_fits, long_fits};
+ghost use Rattle.gate.specs.Orders.{checked, in_range, ran, word_run, long_run, ran_word, ran_long, word_answer, long_answer, word_fits, long_fits};
 ghost use Rattle.gate.specs.Laws.{Quiet, order_loads, order_sees, word_loads, long_loads, long_sees};
 ghost use Rattle.gate.specs.Sound.{Sound};
 
@@ -104,7 +104,7 @@ impl Gate {
     // matches into impls of a trait.
     fn try_word(&mut self, order: WordOrder, word: u16) -> Result<(), OutOfRange>
         ensures answer { result ≡ word_answer order word }
-        ensures is { self.new ≡ tried (word_fits order word) (word_run order word self.old) self.old }
+        ensures is { self.new ≡ cond (word_fits order word) (word_run order word self.old) self.old }
         ensures sound { Sound self.old → Sound self.new }
     {
         match order {
@@ -123,7 +123,7 @@ impl Gate {
     // Runs the order if the value fits it, and else changes nothing.
     fn try_long(&mut self, order: LongOrder, value: u32) -> Result<(), OutOfRange>
         ensures answer { result ≡ long_answer order value }
-        ensures is { self.new ≡ tried (long_fits order value) (long_run order value self.old) self.old }
+        ensures is { self.new ≡ cond (long_fits order value) (long_run order value self.old) self.old }
         ensures sound { Sound self.old → Sound self.new }
     {
         match order {

@@ -8,10 +8,10 @@ use Rattle.gate.specs.declared.orders.LongOrder.TheVariants.{Destination, Veloci
 use Rattle.gate.specs.declared.orders.OutOfRange.{OutOfRange}
 use Rattle.gate.specs.declared.orders.WordOrder.TheVariants.{BufferedPower}
 use Rattle.gate.specs.Gates.{erred, with_acceleration, with_destination, with_power, with_velocity}
-use Rattle.gate.specs.Orders.{answer, in_range, long_fits, long_run, ran_long, ran_word, word_fits, word_run}
+use Rattle.gate.specs.Orders.{checked, in_range, long_fits, long_run, ran_long, ran_word, word_fits, word_run}
 
 -- the gate goes on to the next register just where the value fits
-pub goes_on : {F : Type 0} (fits : Bool) (f : F) (r : Result (Unit {0}) OutOfRange) (s : Result (Unit {0}) F) → r ≡ answer fits → s ≡ result_or r (Err f) → fits ≡ is_ok s
+pub goes_on : {F : Type 0} (fits : Bool) (f : F) (r : Result (Unit {0}) OutOfRange) (s : Result (Unit {0}) F) → r ≡ checked fits tt → s ≡ result_or r (Err f) → fits ≡ is_ok s
 goes_on true f r s e h = sym (ap is_ok (h ∙ ap (λ x. result_or x (Err f)) e))
 goes_on false f r s e h = sym (ap is_ok (h ∙ ap (λ x. result_or x (Err f)) e))
 
