@@ -1,10 +1,12 @@
 -- What the words of a plan are taken for, and which plans a gate takes.
-use Rattle.std.specs.Prelude.{◌≡◌, ℕ, ◌^◌, ◌<◌, Bool, true, false, not, ◌&&◌, List, [], ◌∷◌, codes, ℤ, Some, None, Ok, Err, Option, Result, FitsSigned, ◌==◌, nat_le, nat_lt, unsigned_abs}
+use Rattle.std.specs.Prelude.{◌≡◌, ℕ, ◌^◌, ◌<◌, Bool, true, false, not, ◌&&◌, List, [], ◌∷◌, codes, ℤ, Some, None, Ok, Err, Option, Result, FitsSigned, ◌==◌, unsigned_abs}
 use Rattle.std.specs.Int.{w32}
 use Rattle.std.specs.Str.Parse.{IsNumeral, digits_value, without_leading_plus, without_leading_sign, signed_digits_value}
 use Rattle.gate.specs.declared.gate.Gate.{Gate}
 use Rattle.gate.specs.Gates.{fresh, latched, with_acceleration, with_destination, with_power, with_velocity}
-use Rattle.gate.specs.Orders.{in_range}
+use Rattle.gate.specs.declared.orders.LongOrder.TheVariants as long
+use Rattle.gate.specs.declared.orders.WordOrder.TheVariants as word
+use Rattle.gate.specs.Orders.{in_range, long_fits, word_fits}
 use Rattle.travel.specs.declared.plan.Plan.{Plan}
 use Rattle.travel.specs.declared.plan.Fault.{Fault}
 use Rattle.travel.specs.declared.plan.Fault.TheVariants.{Destination, Velocity, Acceleration, Power, Count}
@@ -46,13 +48,13 @@ abbrev pub good_destination : Plan → Bool
 good_destination p = in_range p.destination
 
 abbrev pub good_velocity : Plan → Bool
-good_velocity p = nat_lt p.velocity (2 ^ 30)
+good_velocity p = long_fits long.Velocity p.velocity
 
 abbrev pub good_acceleration : Plan → Bool
 good_acceleration p = not (unsigned_abs p.acceleration == 0) && in_range p.acceleration
 
 abbrev pub good_power : Plan → Bool
-good_power p = nat_le p.power 32767
+good_power p = word_fits word.BufferedPower p.power
 
 -- a plan is refused for the first of its numbers that is out of range
 abbrev pub Faulty : Plan → Fault → Type 0
