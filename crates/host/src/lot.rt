@@ -1,3 +1,6 @@
+ghost use Rattle.std.specs.Prelude.{◌≡◌, None, pos};
+ghost use Rattle.host.specs.Lots.{noted};
+
 use gate::gate::Gate;
 use motion::course::MICROSTEP;
 use std::fmt;
@@ -67,7 +70,9 @@ pub struct Outcome {
 }
 
 impl Outcome {
-    pub fn new(lot: Lot) -> Outcome {
+    pub fn new(lot: Lot) -> Outcome
+        ensures { result ≡ record { lot = lot; set_off = None; arrived = None; target = pos 0 } }
+    {
         Outcome {
             lot,
             set_off: None,
@@ -77,7 +82,10 @@ impl Outcome {
     }
 
     // Notes what a cycle did to the gate.
-    pub fn note(&mut self, gate: Gate) {
+    #[tactic(auto, unfolding(motion::specs::Course::whole_steps))]
+    pub fn note(&mut self, gate: Gate)
+        ensures { self.new ≡ noted self.old gate }
+    {
         let now = gate.clock.time();
         if gate.motion.velocity != 0 {
             self.set_off.get_or_insert(now);

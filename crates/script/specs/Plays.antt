@@ -1,5 +1,5 @@
 -- What a line of a script does to its board, and how that is answered.
-use Rattle.std.specs.Prelude.{◌≡◌, ℕ, ◌-◌, ◌/◌, ◌%◌, Bool, cond, List, [], ◌∷◌, slice_index, ℤ, pos, Some, None, Ok, Err, Option, Result, IfOk}
+use Rattle.std.specs.Prelude.{◌≡◌, ℕ, ◌-◌, ◌/◌, ◌%◌, Bool, cond, List, [], ◌∷◌, slice_index, ℤ, pos, Some, None, Ok, Err, Option, Result, IfOk, ◌==◌}
 use Rattle.std.specs.Int.{w32}
 use Rattle.std.proofs.Common.{to_z}
 use Rattle.stage.specs.declared.Stage.{Ghosts}
@@ -28,7 +28,7 @@ use Rattle.script.specs.Packets.{Sent, Fetched}
 abbrev pub said : Result Reply Refusal → Answer
 said (Ok Done) = done
 said (Ok (Word w)) = gave w
-said (Ok (Slip n)) = slipped (n - 1)
+said (Ok (Slip n)) = cond (n == 0) (fixed 0 []) (slipped (n - 1))
 said (Ok NoSlip) = fixed 0 []
 said (Ok (Pairs p q)) = fixed 0 []
 said (Ok (Value z)) = fixed 0 []

@@ -1,11 +1,13 @@
 ghost use Rattle.std.specs.Prelude.{◌≡◌, []};
 ghost use Rattle.board.specs.Runs.{Came};
+ghost use Rattle.desk.specs.Closes.{Ended};
 ghost use Rattle.desk.specs.declared.side.Side.TheVariants.{A as First};
 ghost use Rattle.script.specs.Sides.{PlayedAt, Went};
 
 use crate::line::Line;
 use crate::play::play;
 use crate::reply::Reply;
+use board::board::Board;
 use board::refusal::Refusal;
 use desk::desk::Desk;
 use desk::side::Side;
@@ -56,9 +58,11 @@ impl<S: Stage + Drop, R: Stage + Drop> Boards<S, R> {
     }
 
     // Closes every slip that is still kept, at its board, with a word that clears nothing.
-    pub fn finish(self) {
+    pub fn finish(self) -> (Board<S>, Board<R>)
+        ensures a { Ended S.Stage self.a.board result.0 }
+        ensures b { Ended R.Stage self.b.board result.1 }
+    {
         let Boards { a, b, current: _ } = self;
-        let _a = a.finish();
-        let _b = b.finish();
+        (a.finish(), b.finish())
     }
 }

@@ -1,6 +1,6 @@
-ghost use Rattle.std.specs.Prelude.{◌≡◌, ◌<◌, IfSome, Some, Ok, ℤ};
+ghost use Rattle.std.specs.Prelude.{◌≡◌, ◌<◌, IfOk, IfSome, Some, Ok, [], ◌∷◌, ℤ};
 ghost use Rattle.script.specs.Numbers.{Number};
-ghost use Rattle.script.specs.Lines.{IsWord, IsLong, IsCode, Holds, IsInputs, side_name, gate_name};
+ghost use Rattle.script.specs.Lines.{Words, Longs, IsCode, Holds, IsClose, IsCycle, IsInputs, IsCommand, IsRun, IsPacket, Says, NamesSide, NamesGate};
 
 use crate::fault::Expected;
 use crate::mnemonic::named;
@@ -35,7 +35,7 @@ pub enum Packet {
 }
 
 fn side(text: &str) -> Option<Side>
-    ensures { IfSome result (λ s. text.now ≡ side_name s) }
+    ensures { NamesSide text.now result }
 {
     match text {
         "a" => Some(Side::A),
@@ -55,13 +55,13 @@ fn code(text: &str) -> Option<u8>
 
 // The bits of a number of one word, and below of two: one function for both would name a constant and a type at each call.
 fn word(text: &str) -> Option<u16>
-    ensures { IfSome result (IsWord text.now) }
+    ensures { Words text.now result }
 {
     u16::try_from(bits_of::<WORD>(number(text)?)?).ok()
 }
 
 fn long(text: &str) -> Option<u32>
-    ensures { IfSome result (IsLong text.now) }
+    ensures { Longs text.now result }
 {
     u32::try_from(bits_of::<LONG>(number(text)?)?).ok()
 }
@@ -76,7 +76,7 @@ where
 }
 
 fn gate(text: &str) -> Option<u8>
-    ensures { IfSome result (λ g. gate_name g text.now) }
+    ensures { NamesGate text.now result }
 {
     match text {
         "1" => Some(1),
@@ -114,18 +114,24 @@ fn inputs(number: &str, letters: &str) -> Option<Inputs>
 }
 
 // The only one of the words.
-fn only<'a>(words: &[&'a str]) -> Option<&'a str> {
+fn only<'a>(words: &[&'a str]) -> Option<&'a str>
+    ensures { IfSome result (λ word. words.now ≡ word ∷ []) }
+{
     match words {
         [word] => Some(*word),
         _ => None,
     }
 }
 
-fn alone(words: &[&str], line: Line) -> Option<Line> {
+fn alone(words: &[&str], line: Line) -> Option<Line>
+    ensures { IfSome result (λ l. (l ≡ line) × (words.now ≡ [])) }
+{
     words.is_empty().then_some(line)
 }
 
-fn cycle(words: &[&str]) -> Option<Line> {
+fn cycle(words: &[&str]) -> Option<Line>
+    ensures { IfSome result (IsCycle words.now) }
+{
     match words {
         [] => Some(Line::Cycle(Inputs::STILL, Inputs::STILL)),
         [c, s, d, t] => Some(Line::Cycle(inputs(*c, *s)?, inputs(*d, *t)?)),
@@ -133,7 +139,21 @@ fn cycle(words: &[&str]) -> Option<Line> {
     }
 }
 
-fn close(words: &[&str]) -> Option<Line> {
+fn command(words: &[&str]) -> Option<Line>
+    ensures { IfSome result (IsCommand words.now) }
+{
+    Some(Line::Command(code(only(words)?)?))
+}
+
+fn run(words: &[&str]) -> Option<Line>
+    ensures { IfSome result (IsRun words.now) }
+{
+    Some(Line::Run(fitting(only(words)?)?))
+}
+
+fn close(words: &[&str]) -> Option<Line>
+    ensures { IfSome result (IsClose words.now) }
+{
     match words {
         [g, w] => Some(Line::Close(gate(*g)?, word(*w)?)),
         _ => None,
@@ -142,7 +162,9 @@ fn close(words: &[&str]) -> Option<Line> {
 
 impl Packet {
     // A command's packet, with the value that the words write.
-    fn read(command: Command, words: &[&str]) -> Result<Packet, Expected> {
+    fn read(command: Command, words: &[&str]) -> Result<Packet, Expected>
+        ensures { IfOk result (IsPacket command words.now) }
+    {
         match command.takes() {
             0 => words
                 .is_empty()
@@ -164,6 +186,8 @@ impl Packet {
 impl<'a> TryFrom<&'a [&'a str]> for Line {
     type Error = Expected;
 
+    ghost try_from_gives = { λ words r. Says words.now r };
+
     fn try_from(words: &'a [&'a str]) -> Result<Line, Expected> {
         let [verb, rest @ ..] = words else {
             return Ok(Line::Nothing);
@@ -173,20 +197,14 @@ impl<'a> TryFrom<&'a [&'a str]> for Line {
                 .and_then(side)
                 .map(Line::Board)
                 .ok_or(Expected::Board),
-            "command" => only(rest)
-                .and_then(code)
-                .map(Line::Command)
-                .ok_or(Expected::Command),
+            "command" => command(rest).ok_or(Expected::Command),
             "write" => only(rest)
                 .and_then(word)
                 .map(Line::Write)
                 .ok_or(Expected::Word),
             "read" => alone(rest, Line::Read).ok_or(Expected::Alone),
             "cycle" => cycle(rest).ok_or(Expected::Cycle),
-            "run" => only(rest)
-                .and_then(fitting)
-                .map(Line::Run)
-                .ok_or(Expected::Run),
+            "run" => run(rest).ok_or(Expected::Run),
             "reset" => alone(rest, Line::Reset).ok_or(Expected::Alone),
             "take" => alone(rest, Line::Take).ok_or(Expected::Alone),
             "close" => close(rest).ok_or(Expected::Close),

@@ -15,6 +15,6 @@ pub record Ran (n : ℕ) (g h : Gate) : Type 0 where
   pub is : h ≡ after n g
   pub moving : (k : ℕ) → k < n → 0 < k → at_rest (after k g) ≡ false
 
--- a run ends at rest, or after 10,000 cycles
+-- a run has a cycle, and ends at rest or after 10,000
 abbrev pub Ends : ℕ → Gate → Type 0
-Ends n h = (at_rest h ≡ true) ⊎ (n ≡ 10000)
+Ends n h = (0 < n) × ((at_rest h ≡ true) ⊎ (n ≡ 10000))

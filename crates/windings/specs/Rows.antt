@@ -1,8 +1,8 @@
 -- What one line of a trial holds.
-use Rattle.std.specs.Prelude.{◌≡◌, ℕ, cond, ℤ}
+use Rattle.std.specs.Prelude.{◌≡◌, ℕ, true, cond, ℤ}
 use Rattle.stage.specs.Dac.{number, dac_pairs}
 use Rattle.stage.specs.Pairs.{Pair, Pairs, cut_pair}
-use Rattle.stage.specs.Pulse.{numbers}
+use Rattle.stage.specs.Pulse.{numbers, zeros_positive}
 use Rattle.stage.specs.Pwm.{pwm_pairs}
 use Rattle.stage.specs.Wiring.{undone, undone_pairs}
 use Rattle.stage.specs.declared.dac.Word.{Word}
@@ -27,6 +27,7 @@ pub record Measured (s : Settings) (wire : Wire) (position : ℤ) (r : Row) : Ty
   pub words : spoken r.words ≡ r.dac
   pub pwm : r.pwm ≡ cut_pair 128 (phases s.kind s.power position)
   pub pulses : undone wire (numbers r.pulses) ≡ r.pwm
+  pub signs : zeros_positive r.pulses ≡ true
 
 -- what a rig's PWM stage shows through its wiring
 abbrev pub wired_shows : Wiring (Levels Lines) → Pairs

@@ -8,7 +8,7 @@ returns-in_err-println-2 g c =
 
 pub returns-then-not-row : goal.returns-then-not-row
 returns-then-not-row g c =
-    (c.loop-cycle._cycle + 1, Ran-more _ _ _ _ c.loop-cycle.invariant c.loop-cycle-test.true c.step-row.ensures.goes, inl (rests _ _ _ c.step-row.ensures.shown.moving c.if-not-row.true))
+    (c.loop-cycle._cycle + 1, Ran-more _ _ _ _ c.loop-cycle.invariant c.loop-cycle-test.true c.step-row.ensures.goes, (search rules, inl (rests _ _ _ c.step-row.ensures.shown.moving c.if-not-row.true)))
 
 pub loop-cycle-preserved : goal.loop-cycle-preserved
 loop-cycle-preserved g c =
