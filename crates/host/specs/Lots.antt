@@ -3,7 +3,6 @@ use Rattle.std.specs.Prelude.{ℕ, cond, Some, None, Option, is_some, ◌==◌, 
 use Rattle.motion.specs.Course.{whole_steps}
 use Rattle.gate.specs.declared.gate.Gate.{Gate}
 use Rattle.gate.specs.Clock.{time}
-use Rattle.host.specs.declared.lot.Lot.{Lot}
 use Rattle.host.specs.declared.lot.Outcome.{Outcome}
 
 -- a number that is noted once
