@@ -219,67 +219,104 @@ const SHORT: u64 = 12;
 const SHORT_LISTS: u64 = 40;
 const RANDOM_LISTS: u64 = 2_000;
 
+/// Lists of every kind of damage.
 fn damaged(seed: u64) -> Vec<Damaged> {
-    let mut all = Vec::new();
-    let mut add = |name: String, list: Vec<u8>, room: usize| {
-        all.push(Damaged { name, list, room });
-    };
-    for room in 0..=HEAD + 1 {
-        add(format!("empty list, room for {room}"), Vec::new(), room);
-        add(format!("a bad byte, room for {room}"), vec![0x7f], room);
-        add(format!("a read, room for {room}"), vec![0x02], room);
+    let mut lists = Lists(Vec::new());
+    lists.little_room();
+    lists.first_bytes();
+    lists.switches();
+    lists.gates();
+    for index in 0..SHORT_LISTS {
+        let short = lists::edges(seed, u64::MAX - index, SHORT);
+        lists.cut(index, &short);
+        lists.crowded(index, &short);
+        lists.altered(index, &short, seed);
     }
-    for first in 0..=u8::MAX {
-        for len in 0..8 {
+    for index in 0..RANDOM_LISTS {
+        lists.random(index, seed);
+    }
+    lists.0
+}
+
+struct Lists(Vec<Damaged>);
+
+impl Lists {
+    fn add(&mut self, name: String, list: Vec<u8>, room: usize) {
+        self.0.push(Damaged { name, list, room });
+    }
+
+    fn little_room(&mut self) {
+        for room in 0..=HEAD + 1 {
+            self.add(format!("empty list, room for {room}"), Vec::new(), room);
+            self.add(format!("a bad byte, room for {room}"), vec![0x7f], room);
+            self.add(format!("a read, room for {room}"), vec![0x02], room);
+        }
+    }
+
+    fn first_bytes(&mut self) {
+        for (first, len) in (0..=u8::MAX).flat_map(|first| (0..8).map(move |len| (first, len))) {
             let mut list = vec![0x02, first];
             list.resize(2 + len, 0x01);
-            add(format!("byte {first:02x} and {len} more"), list, 400);
+            self.add(format!("byte {first:02x} and {len} more"), list, 400);
         }
     }
-    for first in [0x03, 0x83] {
-        for switches in 0..=u8::MAX {
-            let left = vec![first, 0, 1, switches, 0, 2, 0, 0x02];
-            let right = vec![first, 0, 1, 0, 0, 2, switches, 0x02];
-            add(format!("switches {switches:02x}, gate 1"), left, 400);
-            add(format!("switches {switches:02x}, gate 2"), right, 400);
+
+    fn switches(&mut self) {
+        for (first, on) in [0x03, 0x83]
+            .into_iter()
+            .flat_map(|first| (0..=u8::MAX).map(move |on| (first, on)))
+        {
+            let left = vec![first, 0, 1, on, 0, 2, 0, 0x02];
+            let right = vec![first, 0, 1, 0, 0, 2, on, 0x02];
+            self.add(format!("switches {on:02x}, gate 1"), left, 400);
+            self.add(format!("switches {on:02x}, gate 2"), right, 400);
         }
     }
-    for first in [0x06, 0x07, 0x86, 0x87] {
-        for gate in 0..=u8::MAX {
+
+    fn gates(&mut self) {
+        for (first, gate) in [0x06, 0x07, 0x86, 0x87]
+            .into_iter()
+            .flat_map(|first| (0..=u8::MAX).map(move |gate| (first, gate)))
+        {
             let list = vec![0x02, first, gate, 0, 0, 0x02];
-            add(format!("{first:02x} with gate {gate}"), list, 400);
+            self.add(format!("{first:02x} with gate {gate}"), list, 400);
         }
     }
-    for index in 0..SHORT_LISTS {
-        let List { bytes, room, .. } = lists::edges(seed, u64::MAX - index, SHORT);
-        for len in 0..bytes.len() {
-            add(
-                format!("short list {index} cut at {len}"),
-                bytes[..len].to_vec(),
-                room,
-            );
+
+    /// The list cut off at every place.
+    fn cut(&mut self, index: u64, short: &List) {
+        for len in 0..short.bytes.len() {
+            let list = short.bytes[..len].to_vec();
+            self.add(format!("short list {index} cut at {len}"), list, short.room);
         }
-        for room in (0..room).step_by(if index < 4 { 1 } else { LOOK / 3 }) {
-            add(
-                format!("short list {index}, room for {room}"),
-                bytes.clone(),
-                room,
-            );
+    }
+
+    /// The list with less room than its answers take: every room for some lists, a third of a
+    /// look more each time for the others.
+    fn crowded(&mut self, index: u64, short: &List) {
+        for room in (0..short.room).step_by(if index < 4 { 1 } else { LOOK / 3 }) {
+            let list = short.bytes.clone();
+            self.add(format!("short list {index}, room for {room}"), list, room);
         }
+    }
+
+    /// The list with another byte at some place.
+    fn altered(&mut self, index: u64, short: &List, seed: u64) {
         let mut rng = Rng::new(seed, index);
         for _ in 0..50 {
-            let mut list = bytes.clone();
+            let mut list = short.bytes.clone();
             let at = rng.below(list.len() as u64) as usize;
             list[at] = rng.next() as u8;
             let room = list.len() * LOOK + HEAD;
-            add(
+            self.add(
                 format!("short list {index}, other byte at {at}"),
                 list,
                 room,
             );
         }
     }
-    for index in 0..RANDOM_LISTS {
+
+    fn random(&mut self, index: u64, seed: u64) {
         let mut rng = Rng::new(seed ^ 0x5eed, index);
         let len = rng.below(40) as usize;
         let top = rng.pick(&[0x0a, 0x10, 0x100]);
@@ -287,9 +324,8 @@ fn damaged(seed: u64) -> Vec<Damaged> {
             .map(|_| rng.below(top) as u8 | rng.pick(&[0, 0, 0x80]))
             .collect();
         let room = rng.pick(&[0, 7, 8, 20, 160, len * LOOK + HEAD]);
-        add(format!("random bytes {index}"), list, room);
+        self.add(format!("random bytes {index}"), list, room);
     }
-    all
 }
 
 /// What was played and seen.
