@@ -7,7 +7,7 @@ fn main() {
         return;
     }
     let manifest = env::var("CARGO_MANIFEST_DIR").expect("cargo names the manifest's folder");
-    let folder = Path::new(&manifest).join("../crates/replay/out");
+    let folder = Path::new(&manifest).join("target/aligned");
     println!("cargo:rustc-link-search=native={}", folder.display());
     println!("cargo:rustc-link-lib=static=replay");
     println!(
