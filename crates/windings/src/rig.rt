@@ -1,4 +1,4 @@
-ghost use Rattle.std.specs.Prelude.{◌≡◌};
+ghost use Rattle.std.specs.Prelude.{◌≡◌, OnOk, pos};
 ghost use Rattle.stage.specs.Dac.{dac_pairs};
 ghost use Rattle.stage.specs.Pairs.{dark, pair_of};
 ghost use Rattle.stage.specs.Pwm.{pwm_pairs};
@@ -71,8 +71,9 @@ impl Rig {
         }
     }
 
-    // Prints a line for each position of an electrical turn.
+    // Prints a line for each position of an electrical turn, and leaves the motor at the last.
     pub fn show(&mut self, rt: &impl Print) -> io::Result<()>
+        ensures driven { OnOk result (Driven self.new.settings (pos 255) self.new.dac self.new.pwm) }
         ensures kept { (self.new.settings ≡ self.old.settings) × (self.new.pwm.one ≡ self.old.pwm.one) × (self.new.pwm.two ≡ self.old.pwm.two) }
         ensures spared { Spared self.old.dac self.new.dac self.old.pwm self.new.pwm }
     {

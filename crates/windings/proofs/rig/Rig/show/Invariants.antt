@@ -1,5 +1,5 @@
-use Rattle.std.proofs.Common.{◌≡◌}
-use Rattle.windings.specs.Rows.{Spared}
+use Rattle.std.proofs.Common.{◌≡◌, pos, ◌-ℤ◌, ◌<ℤ◌, ◌≤ℤ◌}
+use Rattle.windings.specs.Rows.{Driven, Spared}
 use Rattle.windings.proofs.rig.Rig.show.Given as goal
 
 abbrev pub invariant-loop-position : goal.invariant-loop-position
@@ -8,4 +8,6 @@ invariant-loop-position g l = record {
   wire : l.self.pwm.one ≡ l.fn.self.pwm.one;
   other : l.self.pwm.two ≡ l.fn.self.pwm.two;
   spared : Spared l.fn.self.dac l.self.dac l.fn.self.pwm l.self.pwm;
+  within : l.position ≤ℤ pos 256;
+  driven : pos 0 <ℤ l.position → Driven l.self.settings (l.position -ℤ pos 1) l.self.dac l.self.pwm;
 }
