@@ -12,7 +12,7 @@ use Rattle.gate.specs.declared.inputs.Inputs.{Inputs}
 use Rattle.gate.specs.declared.profile.ProfileMode.{ProfileMode}
 use Rattle.gate.specs.declared.profile.ProfileMode.TheVariants.{Trapezoidal, Velocity}
 use Rattle.gate.specs.Clock.{ticked, time}
-use Rattle.gate.specs.Gates.{latched, limited, stopped, with_actual, with_breakpoint, with_clock, with_events, with_motion}
+use Rattle.gate.specs.Gates.{latched, limited, stopped, with_actual, with_clock}
 
 -- 1. the clock counts the cycle
 abbrev pub clocked : Gate → Gate
@@ -29,7 +29,14 @@ trips input armed e = input && armed && not (limited e)
 -- the gate after the positive and the negative limit tripped or not
 abbrev pub limits : Bool → Bool → Inputs → Gate → Gate
 limits p n i g =
-    record { buffered = g.buffered; active = g.active; powers = g.powers; motion = cond (p || n) (stopped g.motion) g.motion; actual = g.actual; breakpoint = g.breakpoint; events = record { complete = g.events.complete; wrapped = g.events.wrapped; reached = g.events.reached; positive = g.events.positive || p; negative = g.events.negative || n; error = g.events.error }; mask = g.mask; detectors = record { positive = not i.positive || (g.detectors.positive && not p); negative = not i.negative || (g.detectors.negative && not n) }; kind = g.kind; slip = g.slip; clock = g.clock }
+    record g {
+      motion = cond (p || n) (stopped g.motion) g.motion;
+      events = record g.events { positive = g.events.positive || p; negative = g.events.negative || n };
+      detectors = record {
+        positive = not i.positive || (g.detectors.positive && not p);
+        negative = not i.negative || (g.detectors.negative && not n);
+      };
+    }
 
 -- the positive limit is tried first
 abbrev pub tripped : Inputs → Gate → Gate
@@ -55,8 +62,7 @@ meets home g = holds g.breakpoint.mode g.breakpoint.point (time g.clock) (whole_
 -- the mode is off, and the bit set
 abbrev pub marked : Gate → Gate
 marked g =
-    with_events (with_breakpoint g (record { mode = Off; point = g.breakpoint.point; auto = g.breakpoint.auto }))
-    (record { complete = g.events.complete; wrapped = g.events.wrapped; reached = true; positive = g.events.positive; negative = g.events.negative; error = g.events.error })
+    record g { breakpoint = record g.breakpoint { mode = Off }; events = record g.events { reached = true } }
 
 abbrev pub met : Bool → Gate → Gate
 met home g = cond (meets home g) (cond g.breakpoint.auto (latched (marked g)) (marked g)) g
@@ -72,8 +78,10 @@ next_velocity g = cond g.motion.halted (pos 0) (paced g.active.mode g)
 -- the move by a velocity
 abbrev pub moved_by : ℤ → Gate → Gate
 moved_by v g =
-    with_events (with_motion g (record { target = advanced g.motion.target v; velocity = v; halted = g.motion.halted; rested = g.motion.rested }))
-    (record { complete = g.events.complete; wrapped = g.events.wrapped || crosses g.motion.target v; reached = g.events.reached; positive = g.events.positive; negative = g.events.negative; error = g.events.error })
+    record g {
+      motion = record g.motion { target = advanced g.motion.target v; velocity = v };
+      events = record g.events { wrapped = g.events.wrapped || crosses g.motion.target v };
+    }
 
 abbrev pub moved : Gate → Gate
 moved g = moved_by (next_velocity g) g
@@ -89,8 +97,10 @@ at_rest g = unsigned_abs g.motion.velocity == 0 && (g.motion.halted || (g.active
 -- motion complete is set where the gate comes to rest
 abbrev pub settled : Gate → Gate
 settled g =
-    with_events (with_motion g (record { target = g.motion.target; velocity = g.motion.velocity; halted = g.motion.halted; rested = at_rest g }))
-    (record { complete = g.events.complete || (at_rest g && not g.motion.rested); wrapped = g.events.wrapped; reached = g.events.reached; positive = g.events.positive; negative = g.events.negative; error = g.events.error })
+    record g {
+      motion = record g.motion { rested = at_rest g };
+      events = record g.events { complete = g.events.complete || (at_rest g && not g.motion.rested) };
+    }
 
 -- the steps in their order
 abbrev pub cycled : Inputs → Gate → Gate

@@ -17,8 +17,8 @@ abbrev pub ran : Order → Gate → Gate
 ran (Mode m) g = with_mode m g
 ran Stop g = with_velocity 0 g
 ran Update g = latched g
-ran (Auto on) g = with_breakpoint g (record { mode = g.breakpoint.mode; point = g.breakpoint.point; auto = on })
-ran (Break m) g = with_breakpoint g (record { mode = m; point = g.breakpoint.point; auto = g.breakpoint.auto })
+ran (Auto on) g = with_breakpoint g (record g.breakpoint { auto = on })
+ran (Break m) g = with_breakpoint g (record g.breakpoint { mode = m })
 ran (Motor kind) g = with_kind g kind
 
 -- a value if it fits, and the refusal if not
@@ -60,7 +60,7 @@ abbrev pub long_run : LongOrder → ℕ → Gate → Gate
 long_run long.Destination v g = with_destination (to_z w32 v) g
 long_run long.Velocity v g = with_velocity v g
 long_run long.Acceleration v g = with_acceleration (to_z w32 v) g
-long_run long.Point v g = with_breakpoint g (record { mode = g.breakpoint.mode; point = v; auto = g.breakpoint.auto })
+long_run long.Point v g = with_breakpoint g (record g.breakpoint { point = v })
 long_run long.Actual v g = placed (to_z w32 v) g
 
 abbrev pub long_answer : LongOrder → ℕ → Result (Unit {0}) OutOfRange
