@@ -3,12 +3,8 @@ use Rattle.std.specs.Prelude.{◌≡◌, ℕ, ◌≤◌, max, Bool, true, false,
 use Rattle.motion.specs.Course.{advanced, counted, crosses, whole_steps}
 use Rattle.gate.specs.declared.gate.Gate.{Gate}
 use Rattle.gate.specs.declared.inputs.Inputs.{Inputs}
-use Rattle.gate.specs.declared.orders.Order.{Order}
-use Rattle.gate.specs.declared.orders.Order.TheVariants.{Mode, Stop, Update, Auto, Break, Motor}
-use Rattle.gate.specs.declared.orders.WordOrder.{WordOrder}
-use Rattle.gate.specs.declared.orders.WordOrder.TheVariants as word
-use Rattle.gate.specs.declared.orders.LongOrder.{LongOrder}
-use Rattle.gate.specs.declared.orders.LongOrder.TheVariants as long
+use Rattle.gate.specs.declared.load.Load.{Load}
+use Rattle.gate.specs.declared.load.Load.TheVariants as load
 use Rattle.gate.specs.declared.queries.Query.{Query}
 use Rattle.gate.specs.declared.queries.Query.TheVariants.{Position, Velocity, Acceleration, TargetPosition, TargetVelocity, ActualPosition, CycleTime}
 use Rattle.gate.specs.Clock.{ticked, time}
@@ -70,39 +66,10 @@ is_acceleration TargetVelocity = false
 is_acceleration ActualPosition = false
 is_acceleration CycleTime = false
 
--- the orders that load a buffered register, and the one question that sees the register
-abbrev pub order_loads : Order → Bool
-order_loads (Mode m) = true
-order_loads Stop = true
-order_loads Update = false
-order_loads (Auto on) = false
-order_loads (Break m) = false
-order_loads (Motor kind) = false
-
-abbrev pub order_sees : Order → Query → Bool
-order_sees (Mode m) q = false
-order_sees Stop q = is_velocity q
-order_sees Update q = false
-order_sees (Auto on) q = false
-order_sees (Break m) q = false
-order_sees (Motor kind) q = false
-
-abbrev pub word_loads : WordOrder → Bool
-word_loads word.BufferedPower = true
-word_loads word.Power = false
-word_loads word.Status = false
-word_loads word.Mask = false
-
-abbrev pub long_loads : LongOrder → Bool
-long_loads long.Destination = true
-long_loads long.Velocity = true
-long_loads long.Acceleration = true
-long_loads long.Point = false
-long_loads long.Actual = false
-
-abbrev pub long_sees : LongOrder → Query → Bool
-long_sees long.Destination q = is_position q
-long_sees long.Velocity q = is_velocity q
-long_sees long.Acceleration q = is_acceleration q
-long_sees long.Point q = false
-long_sees long.Actual q = false
+-- the one question that sees the register that is loaded
+abbrev pub load_sees : Load → Query → Bool
+load_sees (load.Destination x) q = is_position q
+load_sees (load.Velocity x) q = is_velocity q
+load_sees (load.Acceleration x) q = is_acceleration q
+load_sees (load.Mode m) q = false
+load_sees (load.Power x) q = false

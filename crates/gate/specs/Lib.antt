@@ -3,6 +3,7 @@ pub mod Clock
 pub mod Inputs
 pub mod Events
 pub mod Gates
+pub mod Loads
 pub mod Sound
 pub mod Cycles
 pub mod Orders

@@ -9,6 +9,7 @@ pub mod events;
 pub mod gate;
 pub mod inputs;
 pub mod limits;
+pub mod load;
 pub mod movement;
 pub mod orders;
 pub mod powers;

@@ -1,12 +1,15 @@
-ghost use Rattle.std.specs.Prelude.{◌≡◌, true, false, cond, nat_le};
+ghost use Rattle.std.specs.Prelude.{◌≡◌, true, cond, IfSome};
 ghost use Rattle.std.specs.Int.{w32};
 ghost use Rattle.std.proofs.Common.{to_z};
-ghost use Rattle.gate.specs.Orders.{checked, in_range, ran, word_run, long_run, ran_word, ran_long, word_answer, long_answer, word_fits, long_fits};
-ghost use Rattle.gate.specs.Laws.{Quiet, order_loads, order_sees, word_loads, long_loads, long_sees};
+ghost use Rattle.gate.specs.Loads.{in_range, load_fits};
+ghost use Rattle.gate.specs.Orders.{checked, ran, word_run, long_run, ran_word, ran_long, word_answer, long_answer, word_fits, long_fits};
+ghost use Rattle.gate.specs.Orders.{order_load, word_load, long_load};
+ghost use Rattle.gate.specs.Laws.{Quiet, load_sees};
 ghost use Rattle.gate.specs.Sound.{Sound};
 
 use crate::breakpoint::BreakMode;
 use crate::gate::Gate;
+use crate::load::Load;
 use crate::profile::ProfileMode;
 use wave::phases::MotorKind;
 
@@ -52,13 +55,13 @@ const LARGEST_VELOCITY: u32 = 0x3fff_ffff;
 const SIGNED_END: i32 = 0x4000_0000;
 
 fn power(word: u16) -> Result<u16, OutOfRange>
-    ensures { result ≡ checked (nat_le word 32767) word }
+    ensures { result ≡ checked (load_fits (Load.Power word)) word }
 {
     (word <= LARGEST_POWER).then_some(word).ok_or(OutOfRange)
 }
 
 fn velocity(value: u32) -> Result<u32, OutOfRange>
-    ensures { result ≡ checked (long_fits LongOrder.Velocity value) value }
+    ensures { result ≡ checked (load_fits (Load.Velocity value)) value }
 {
     (value <= LARGEST_VELOCITY)
         .then_some(value)
@@ -76,23 +79,23 @@ fn position(value: u32) -> Result<i32, OutOfRange>
 }
 
 fn acceleration(value: u32) -> Result<i32, OutOfRange>
-    ensures { result ≡ checked (long_fits LongOrder.Acceleration value) (to_z w32 value) }
+    ensures { result ≡ checked (load_fits (Load.Acceleration (to_z w32 value))) (to_z w32 value) }
 {
-    if value == 0 {
-        return Err(OutOfRange);
-    }
-    position(value)
+    let acceleration = position(value)?;
+    (acceleration != 0)
+        .then_some(acceleration)
+        .ok_or(OutOfRange)
 }
 
 impl Gate {
     pub fn run(&mut self, order: Order)
         ensures is { self.new ≡ ran order self.old }
         ensures sound { Sound self.old → Sound self.new }
-        ensures quiet { order_loads order ≡ true → Quiet (order_sees order) self.old self.new }
+        ensures quiet { IfSome (order_load order) (λ load. Quiet (load_sees load) self.old self.new) }
     {
         match order {
-            Order::Mode(mode) => self.buffered.mode = mode,
-            Order::Stop => self.buffered.velocity = 0,
+            Order::Mode(mode) => self.load(Load::Mode(mode)),
+            Order::Stop => self.load(Load::Velocity(0)),
             Order::Update => self.latch(),
             Order::Auto(on) => self.breakpoint.auto = on,
             Order::Break(mode) => self.breakpoint.mode = mode,
@@ -108,10 +111,10 @@ impl Gate {
         ensures sound { Sound self.old → Sound self.new }
     {
         match order {
-            WordOrder::BufferedPower => self.powers.buffered = power(word)?,
+            WordOrder::BufferedPower => self.load(Load::Power(power(word)?)),
             WordOrder::Power => {
                 let power = power(word)?;
-                self.powers.buffered = power;
+                self.load(Load::Power(power));
                 self.powers.active = power;
             }
             WordOrder::Status => self.events.keep(word),
@@ -127,9 +130,9 @@ impl Gate {
         ensures sound { Sound self.old → Sound self.new }
     {
         match order {
-            LongOrder::Destination => self.buffered.destination = position(value)?,
-            LongOrder::Velocity => self.buffered.velocity = velocity(value)?,
-            LongOrder::Acceleration => self.buffered.acceleration = acceleration(value)?,
+            LongOrder::Destination => self.load(Load::Destination(position(value)?)),
+            LongOrder::Velocity => self.load(Load::Velocity(velocity(value)?)),
+            LongOrder::Acceleration => self.load(Load::Acceleration(acceleration(value)?)),
             LongOrder::Point => self.breakpoint.point = value,
             LongOrder::Actual => self.place(position(value)?),
         }
@@ -141,7 +144,8 @@ impl Gate {
         ensures answer { result ≡ word_answer order word }
         ensures is { self.new ≡ ran_word order word self.old }
         ensures sound { Sound self.old → Sound self.new }
-        ensures quiet { word_loads order ≡ true → word_fits order word ≡ true → Quiet (λ _. false) self.old self.new }
+        ensures quiet { word_fits order word ≡ true →
+            IfSome (word_load order word) (λ load. Quiet (load_sees load) self.old self.new) }
     {
         let done = self.try_word(order, word);
         if done.is_err() {
@@ -155,7 +159,8 @@ impl Gate {
         ensures answer { result ≡ long_answer order value }
         ensures is { self.new ≡ ran_long order value self.old }
         ensures sound { Sound self.old → Sound self.new }
-        ensures quiet { long_loads order ≡ true → long_fits order value ≡ true → Quiet (long_sees order) self.old self.new }
+        ensures quiet { long_fits order value ≡ true →
+            IfSome (long_load order value) (λ load. Quiet (load_sees load) self.old self.new) }
     {
         let done = self.try_long(order, value);
         if done.is_err() {

@@ -1,5 +1,5 @@
 -- A gate that takes a plan, register by register.
-use Rattle.std.proofs.Common.{◌≡◌, ℕ, Bool, true, false, cond, not, ◌&&◌, eqb, ℤ, pos, negsuc, nat_abs, Err, Result, sym, refl, ap, ◌∙◌, arith, w32, SFits, to_z, of_z}
+use Rattle.std.proofs.Common.{◌≡◌, ℕ, Bool, true, false, cond, ℤ, Err, Result, sym, ap, ◌∙◌, w32, SFits, to_z, of_z}
 use Rattle.std.specs.Result.{is_ok, result_or}
 use Rattle.std.proofs.lemmas.Int.{to_z-of_z}
 use Rattle.gate.specs.declared.gate.Gate.{Gate}
@@ -7,8 +7,10 @@ use Rattle.gate.specs.declared.orders.LongOrder.{LongOrder}
 use Rattle.gate.specs.declared.orders.LongOrder.TheVariants.{Destination, Velocity, Acceleration}
 use Rattle.gate.specs.declared.orders.OutOfRange.{OutOfRange}
 use Rattle.gate.specs.declared.orders.WordOrder.TheVariants.{BufferedPower}
-use Rattle.gate.specs.Gates.{erred, with_acceleration, with_destination, with_power, with_velocity}
-use Rattle.gate.specs.Orders.{checked, in_range, long_fits, long_run, ran_long, ran_word, word_fits, word_run}
+use Rattle.gate.specs.declared.load.Load.TheVariants as load
+use Rattle.gate.specs.Gates.{erred}
+use Rattle.gate.specs.Loads.{loaded}
+use Rattle.gate.specs.Orders.{checked, long_fits, long_run, ran_long, ran_word, word_fits, word_run}
 
 -- the gate goes on to the next register just where the value fits
 pub goes_on : {F : Type 0} (fits : Bool) (f : F) (r : Result (Unit {0}) OutOfRange) (s : Result (Unit {0}) F) → r ≡ checked fits tt → s ≡ result_or r (Err f) → fits ≡ is_ok s
@@ -22,32 +24,22 @@ bits z v f b = b ∙ ap (of_z w32) (to_z-of_z w32 z f)
 stands : (z : ℤ) (v : ℕ) → SFits w32 z → v ≡ of_z w32 (to_z w32 (of_z w32 z)) → to_z w32 v ≡ z
 stands z v f b = ap (to_z w32) (bits z v f b) ∙ to_z-of_z w32 z f
 
-pub destination_fits : (z : ℤ) (v : ℕ) → SFits w32 z → v ≡ of_z w32 (to_z w32 (of_z w32 z)) → in_range z ≡ long_fits Destination v
-destination_fits z v f b = sym (ap in_range (stands z v f b))
-
--- no number but 0 has the bits of 0
-zero_bits : (z : ℤ) → SFits w32 z → eqb (of_z w32 z) 0 ≡ eqb (nat_abs z) 0
-zero_bits (pos n) f = refl
-zero_bits (negsuc n) f = grind arith
-
-pub acceleration_fits : (z : ℤ) (v : ℕ) → SFits w32 z → v ≡ of_z w32 (to_z w32 (of_z w32 z)) → (not (eqb (nat_abs z) 0) && in_range z) ≡ long_fits Acceleration v
-acceleration_fits z v f b =
-    sym (ap (λ x. not (eqb x 0) && in_range (to_z w32 v)) (bits z v f b)
-    ∙ (ap (λ x. not x && in_range (to_z w32 v)) (zero_bits z f)
-    ∙ ap (λ x. not (eqb (nat_abs z) 0) && in_range x) (stands z v f b)))
+-- what is asked of a number is asked of its bits
+pub fits_bits : (fits : ℤ → Bool) (z : ℤ) (v : ℕ) → SFits w32 z → v ≡ of_z w32 (to_z w32 (of_z w32 z)) → fits z ≡ fits (to_z w32 v)
+fits_bits fits z v f b = sym (ap fits (stands z v f b))
 
 -- the record after an order whose value fits
 runs : (o : LongOrder) (v : ℕ) (g h : Gate) → h ≡ ran_long o v g → long_fits o v ≡ true → h ≡ long_run o v g
 runs o v g h e fits = e ∙ ap (λ b. cond b (long_run o v g) (erred g)) fits
 
-pub sends : (z : ℤ) (v : ℕ) (g h : Gate) → SFits w32 z → v ≡ of_z w32 (to_z w32 (of_z w32 z)) → h ≡ ran_long Destination v g → long_fits Destination v ≡ true → h ≡ with_destination z g
-sends z v g h f b e fits = runs Destination v g h e fits ∙ ap (λ x. with_destination x g) (stands z v f b)
+pub sends : (z : ℤ) (v : ℕ) (g h : Gate) → SFits w32 z → v ≡ of_z w32 (to_z w32 (of_z w32 z)) → h ≡ ran_long Destination v g → long_fits Destination v ≡ true → h ≡ loaded (load.Destination z) g
+sends z v g h f b e fits = runs Destination v g h e fits ∙ ap (λ x. loaded (load.Destination x) g) (stands z v f b)
 
-pub speeds : (v : ℕ) (g h : Gate) → h ≡ ran_long Velocity v g → long_fits Velocity v ≡ true → h ≡ with_velocity v g
+pub speeds : (v : ℕ) (g h : Gate) → h ≡ ran_long Velocity v g → long_fits Velocity v ≡ true → h ≡ loaded (load.Velocity v) g
 speeds v g h e fits = runs Velocity v g h e fits
 
-pub hastens : (z : ℤ) (v : ℕ) (g h : Gate) → SFits w32 z → v ≡ of_z w32 (to_z w32 (of_z w32 z)) → h ≡ ran_long Acceleration v g → long_fits Acceleration v ≡ true → h ≡ with_acceleration z g
-hastens z v g h f b e fits = runs Acceleration v g h e fits ∙ ap (λ x. with_acceleration x g) (stands z v f b)
+pub hastens : (z : ℤ) (v : ℕ) (g h : Gate) → SFits w32 z → v ≡ of_z w32 (to_z w32 (of_z w32 z)) → h ≡ ran_long Acceleration v g → long_fits Acceleration v ≡ true → h ≡ loaded (load.Acceleration z) g
+hastens z v g h f b e fits = runs Acceleration v g h e fits ∙ ap (λ x. loaded (load.Acceleration x) g) (stands z v f b)
 
-pub powers : (w : ℕ) (g h : Gate) → h ≡ ran_word BufferedPower w g → word_fits BufferedPower w ≡ true → h ≡ with_power w g
+pub powers : (w : ℕ) (g h : Gate) → h ≡ ran_word BufferedPower w g → word_fits BufferedPower w ≡ true → h ≡ loaded (load.Power w) g
 powers w g h e fits = e ∙ ap (λ b. cond b (word_run BufferedPower w g) (erred g)) fits

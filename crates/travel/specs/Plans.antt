@@ -1,12 +1,11 @@
 -- What the words of a plan are taken for, and which plans a gate takes.
-use Rattle.std.specs.Prelude.{◌≡◌, ℕ, ◌^◌, ◌<◌, Bool, true, false, not, ◌&&◌, List, [], ◌∷◌, codes, ℤ, Some, None, Ok, Err, Option, Result, FitsSigned, ◌==◌, unsigned_abs}
+use Rattle.std.specs.Prelude.{◌≡◌, ℕ, ◌^◌, ◌<◌, Bool, true, false, List, [], ◌∷◌, codes, ℤ, Some, None, Ok, Err, Option, Result, FitsSigned}
 use Rattle.std.specs.Int.{w32}
 use Rattle.std.specs.Str.Parse.{IsNumeral, digits_value, without_leading_plus, without_leading_sign, signed_digits_value}
 use Rattle.gate.specs.declared.gate.Gate.{Gate}
-use Rattle.gate.specs.Gates.{fresh, latched, with_acceleration, with_destination, with_power, with_velocity}
-use Rattle.gate.specs.declared.orders.LongOrder.TheVariants as long
-use Rattle.gate.specs.declared.orders.WordOrder.TheVariants as word
-use Rattle.gate.specs.Orders.{in_range, long_fits, word_fits}
+use Rattle.gate.specs.declared.load.Load.TheVariants as load
+use Rattle.gate.specs.Gates.{fresh, latched}
+use Rattle.gate.specs.Loads.{load_fits, loaded}
 use Rattle.travel.specs.declared.plan.Plan.{Plan}
 use Rattle.travel.specs.declared.plan.Fault.{Fault}
 use Rattle.travel.specs.declared.plan.Fault.TheVariants.{Destination, Velocity, Acceleration, Power, Count}
@@ -45,16 +44,16 @@ Written words r = r ≡ Err Count
 
 -- the numbers that a gate takes
 abbrev pub good_destination : Plan → Bool
-good_destination p = in_range p.destination
+good_destination p = load_fits (load.Destination p.destination)
 
 abbrev pub good_velocity : Plan → Bool
-good_velocity p = long_fits long.Velocity p.velocity
+good_velocity p = load_fits (load.Velocity p.velocity)
 
 abbrev pub good_acceleration : Plan → Bool
-good_acceleration p = not (unsigned_abs p.acceleration == 0) && in_range p.acceleration
+good_acceleration p = load_fits (load.Acceleration p.acceleration)
 
 abbrev pub good_power : Plan → Bool
-good_power p = word_fits word.BufferedPower p.power
+good_power p = load_fits (load.Power p.power)
 
 -- a plan is refused for the first of its numbers that is out of range
 abbrev pub Faulty : Plan → Fault → Type 0
@@ -64,10 +63,16 @@ Faulty p Acceleration = (good_destination p ≡ true) × (good_velocity p ≡ tr
 Faulty p Power = (good_destination p ≡ true) × (good_velocity p ≡ true) × (good_acceleration p ≡ true) × (good_power p ≡ false)
 Faulty p Count = ⊥
 
+-- a gate whose buffered registers carry the plan
+abbrev pub carried : Plan → Gate → Gate
+carried p g =
+    loaded (load.Power p.power)
+    (loaded (load.Acceleration p.acceleration) (loaded (load.Velocity p.velocity) (loaded (load.Destination p.destination) g)))
+
 -- a fresh gate that has taken the plan
 pub record Sent (p : Plan) (g : Gate) : Type 0 where
   pub destination : good_destination p ≡ true
   pub velocity : good_velocity p ≡ true
   pub acceleration : good_acceleration p ≡ true
   pub power : good_power p ≡ true
-  pub is : g ≡ latched (with_power p.power (with_acceleration p.acceleration (with_velocity p.velocity (with_destination p.destination (fresh false)))))
+  pub is : g ≡ latched (carried p (fresh false))

@@ -1,0 +1,39 @@
+ghost use Rattle.std.specs.Prelude.{◌≡◌, true};
+ghost use Rattle.gate.specs.Loads.{loaded, load_fits};
+ghost use Rattle.gate.specs.Laws.{Quiet, load_sees};
+ghost use Rattle.gate.specs.Sound.{Sound};
+
+use crate::gate::Gate;
+use crate::profile::ProfileMode;
+
+/// A buffered register and what it is loaded with.
+#[derive(Clone, Copy, PartialEq, Eq, Debug)]
+pub enum Load {
+    /// In microsteps, from -2^30 to 2^30 - 1.
+    Destination(i32),
+    /// In 1/65,536 microstep a cycle, from 0 to 2^30 - 1.
+    Velocity(u32),
+    /// In 1/65,536 microstep a cycle, each cycle: from -2^30 to 2^30 - 1, but not 0.
+    Acceleration(i32),
+    /// Any mode.
+    Mode(ProfileMode),
+    /// In 1/32,768 of the full current, from 0 to 32,767.
+    Power(u16),
+}
+
+impl Gate {
+    /// Loads one buffered register. The gate runs by it from the next latch on.
+    pub fn load(&mut self, load: Load)
+        ensures is { self.new ≡ loaded load self.old }
+        ensures sound { load_fits load ≡ true → Sound self.old → Sound self.new }
+        ensures quiet { Quiet (load_sees load) self.old self.new }
+    {
+        match load {
+            Load::Destination(destination) => self.buffered.destination = destination,
+            Load::Velocity(velocity) => self.buffered.velocity = velocity,
+            Load::Acceleration(acceleration) => self.buffered.acceleration = acceleration,
+            Load::Mode(mode) => self.buffered.mode = mode,
+            Load::Power(power) => self.powers.buffered = power,
+        }
+    }
+}
