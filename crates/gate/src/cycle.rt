@@ -167,11 +167,12 @@ impl Gate {
         )
     }
 
-    // One cycle but for the phases, of what the encoder and the switches bring.
+    // One cycle, of what the encoder and the switches bring; it answers the phases to show.
     #[inline(always)]
-    pub fn turn(&mut self, inputs: Inputs)
+    pub fn cycle(&mut self, inputs: Inputs) -> (i32, i32)
         requires { Sound self.old }
         ensures is { self.new ≡ cycled inputs self.old }
+        ensures shows { result ≡ shows self.new }
         ensures sound { Sound self.new }
         ensures paced { Paced self.old self.new }
         ensures ordered { Ordered inputs self.old self.new }
@@ -182,18 +183,6 @@ impl Gate {
         self.meet(inputs.home);
         self.advance();
         self.settle();
-    }
-
-    // One cycle; it answers the phases to show.
-    pub fn cycle(&mut self, inputs: Inputs) -> (i32, i32)
-        requires { Sound self.old }
-        ensures is { self.new ≡ cycled inputs self.old }
-        ensures shows { result ≡ shows self.new }
-        ensures sound { Sound self.new }
-        ensures paced { Paced self.old self.new }
-        ensures ordered { Ordered inputs self.old self.new }
-    {
-        self.turn(inputs);
         self.phases()
     }
 }

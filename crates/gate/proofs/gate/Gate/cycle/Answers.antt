@@ -3,7 +3,7 @@ use Rattle.gate.specs.declared.gate.Gate.{Gate}
 use Rattle.gate.specs.Cycles.{cycled}
 use Rattle.gate.specs.Laws.{Paced, Ordered}
 use Rattle.gate.proofs.Steps.{chained, cycle_paced, cycle_ordered}
-use Rattle.gate.proofs.gate.Gate.turn.Goals as goal
+use Rattle.gate.proofs.gate.Gate.cycle.Goals as goal
 
 pub returns : goal.returns
 returns c =
@@ -14,6 +14,7 @@ returns c =
     c.tick.ensures.is c.encode.ensures.is c.trip.ensures.is c.meet.ensures.is c.advance.ensures.is c.settle.ensures.is in
     record {
       is = is;
+      shows = c.phases.ensures;
       sound = c.settle.ensures.sound;
       paced = subst (λ (h : Gate). Paced g h) (sym is) (cycle_paced i g);
       ordered = subst (λ (h : Gate). Ordered i g h) (sym is) (cycle_ordered i g);
