@@ -9,7 +9,7 @@ use Rattle.board.specs.declared.refusal.Refusal.TheVariants.{OutOfRange}
 use Rattle.board.specs.declared.board.Board.{Board}
 use Rattle.board.specs.Own.{restart, tick, told, told_word, told_long, asked, viewed, taken, closed, Answer, refused, ran_or_not}
 use Rattle.board.specs.Acts.{State, state_of, Act, act_command, act_write, act_read, act_cycle, act_reset, act_take, act_close, Move, held, opens, enters, updates, unfit, gives, ticks, restarts, move, moved, says, spoken, after, answer}
-use Rattle.board.specs.Runs.{state_after, given, given_after, cuts, Did, pairs_after}
+use Rattle.board.specs.Runs.{state_after, given, given_after, cuts, Did, KeepsStage, pairs_after}
 
 out_of_range : (fits : Bool) (e : Refusal) → spoken (ran_or_not fits) ≡ refused e → e ≡ OutOfRange
 out_of_range true e h = cc
@@ -48,6 +48,15 @@ module _ {S : Type 0} (m : Ghosts S) where
   pairs_still b act_take e h = refl
   pairs_still b (act_close j w) e h = refl
 
+  stage_still : (b c : Board S m) (a : Act) (e : Refusal) → answer (state_of b.table) a ≡ refused e → KeepsStage m a b c → c.stage ≡ b.stage
+  stage_still b c (act_cycle i j) e h k = cc
+  stage_still b c act_reset e h k = cc
+  stage_still b c (act_command x) e h k = k
+  stage_still b c (act_write w) e h k = k
+  stage_still b c act_read e h k = k
+  stage_still b c act_take e h k = k
+  stage_still b c (act_close j w) e h k = k
+
   pairs_on : (b : Board S m) (a : Act) (s : State) (p : Pairs) → state_of b.table ≡ s → m.pairs b.stage ≡ cuts m.STEP p → pairs_after m b a ≡ cuts m.STEP (given s a p)
   pairs_on b (act_cycle i j) s p e h = ap (λ z. cuts m.STEP (given z (act_cycle i j) dark)) e
   pairs_on b act_reset s p e h = dark_cuts m.STEP
@@ -58,13 +67,15 @@ module _ {S : Type 0} (m : Ghosts S) where
   pairs_on b (act_close k w) s p e h = h
 
   pub did : (a : Act) (x : Answer) (b c : Board S m) → x ≡ answer (state_of b.table) a → state_of c.table ≡ after (state_of b.table) a
-      → m.pairs c.stage ≡ pairs_after m b a → Did m a x b c
-  did a x b c says state pairs = record {
+      → m.pairs c.stage ≡ pairs_after m b a → KeepsStage m a b c → Did m a x b c
+  did a x b c says state pairs stage = record {
     says = says;
     state = state;
     pairs = pairs;
+    stage = stage;
     kept = λ e h other. record {
       state = state ∙ held_still (state_of b.table) (move (state_of b.table) a) e (sym says ∙ h) other;
+      stage = stage_still b c a e (sym says ∙ h) stage;
       pairs = pairs ∙ pairs_still b a e (sym says ∙ h);
     };
     came = λ h came. record {

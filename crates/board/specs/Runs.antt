@@ -64,15 +64,28 @@ module _ {S : Type 0} (m : Ghosts S) where
   pairs_after b act_take = m.pairs b.stage
   pairs_after b (act_close k w) = m.pairs b.stage
 
+  -- nothing is changed: gates, current gate, port and stage are those that stood before, and so are the pairs shown
   pub record Same (b c : Board S m) : Type 0 where
     pub state : state_of c.table ≡ state_of b.table
+    pub stage : c.stage ≡ b.stage
     pub pairs : m.pairs c.stage ≡ m.pairs b.stage
+
+  -- only a cycle and a reset reach the stage; any other act leaves it as it stood, with all that is on its wires
+  abbrev pub KeepsStage : Act → Board S m → Board S m → Type 0
+  KeepsStage (act_cycle i j) b c = Unit {0}
+  KeepsStage act_reset b c = Unit {0}
+  KeepsStage (act_command x) b c = c.stage ≡ b.stage
+  KeepsStage (act_write w) b c = c.stage ≡ b.stage
+  KeepsStage act_read b c = c.stage ≡ b.stage
+  KeepsStage act_take b c = c.stage ≡ b.stage
+  KeepsStage (act_close k w) b c = c.stage ≡ b.stage
 
   -- the act a, answered by x, makes c of the board b
   pub record Did (a : Act) (x : Answer) (b c : Board S m) : Type 0 where
     pub says : x ≡ answer (state_of b.table) a
     pub state : state_of c.table ≡ after (state_of b.table) a
     pub pairs : m.pairs c.stage ≡ pairs_after b a
+    pub stage : KeepsStage a b c
     -- a refusal but a write's 5 leaves everything as it stood
     pub kept : (e : Refusal) → x ≡ refused e → (e ≢ OutOfRange) → Same b c
     pub came : (h : List Act) → Came h b → Came (a ∷ h) c

@@ -1,4 +1,5 @@
-ghost use Rattle.std.specs.Prelude.{◌≡◌, ◌-◌, true, false, MatchOption};
+ghost use Rattle.std.specs.Prelude.{◌≡◌, ◌-◌, true, false, IfSome, MatchOption};
+ghost use Rattle.gate.specs.Sound.{Sound};
 ghost use Rattle.stage.specs.Pairs.{is_gate, pair_of};
 ghost use Rattle.board.specs.Acts.{state_of, gate_of};
 
@@ -14,9 +15,18 @@ impl<S: Stage + Drop> Board<S> {
         self.stage.pair(gate)
     }
 
-    // The record of a gate, as it stands.
+    // The output stage, to be asked for what stands on its wires.
+    pub fn stage(&self) -> &S
+        ensures { result.now ≡ self.now.stage }
+    {
+        &self.stage
+    }
+
+    // The record of a gate, as it stands; in its ranges, so that every question of a gate can be put to it.
+    #[tactic(auto, unfolding(crate::specs::Acts::Holds))]
     pub fn record(&self, gate: u8) -> Option<Gate>
-        ensures { MatchOption result (is_gate gate ≡ false) (λ g. (is_gate gate ≡ true) × (g ≡ gate_of (state_of self.now.table) (gate - 1))) }
+        ensures sound { IfSome result Sound }
+        ensures is { MatchOption result (is_gate gate ≡ false) (λ g. (is_gate gate ≡ true) × (g ≡ gate_of (state_of self.now.table) (gate - 1))) }
     {
         match gate {
             1 => Some(self.table.gates[0]),

@@ -3,4 +3,4 @@ use Rattle.board.proofs.Owed.{did}
 use Rattle.board.proofs.board.Board.close.Goals as goal
 
 pub returns-in-Err : goal.returns-in-Err
-returns-in-Err g c = record { did = did _ _ _ _ _ c.in-Err.ensures.answer c.close.ensures.state refl; back = refl }
+returns-in-Err g c = record { did = did _ _ _ _ _ c.in-Err.ensures.answer c.close.ensures.state refl refl; back = refl }

@@ -19,4 +19,4 @@ returns g c =
     let pairs =
     shown_both g.S.Stage.STEP (g.S.Stage.pairs c.args.self.now.stage) _ _ (given s a dark) _ _ _ _ c.show.ensures c.show-2.ensures
     (to_z-of_z w32 r.0.0 f ∙ x.0) (to_z-of_z w32 r.0.1 h ∙ x.1) (to_z-of_z w32 r.1.0 i ∙ x.2) (to_z-of_z w32 r.1.1 j ∙ x.3) in
-    did _ _ _ _ _ refl c.cycle.ensures.state pairs
+    did _ _ _ _ _ refl c.cycle.ensures.state pairs tt
