@@ -7,13 +7,14 @@ use Rattle.gate.specs.Cycles.{shows}
 use Rattle.gate.specs.Gates.{fresh}
 use Rattle.gate.specs.Orders.{word_fits, long_fits}
 use Rattle.board.specs.declared.refusal.Refusal.TheVariants.{NoSlip}
-use Rattle.board.specs.Commands.{decoded}
+use Rattle.board.specs.declared.port.Incoming.TheVariants as incoming
+use Rattle.board.specs.Ports.{port_step}
 use Rattle.board.specs.Own.{ran_or_not, Own, restart, tick, told, told_word, told_long, asked, viewed, taken, closed, Answer, joined, step, reply, replay, alone}
-use Rattle.board.specs.Acts.{spoken, counts, lendable, State, gate_of, Act, act_command, act_write, act_read, act_cycle, act_reset, act_take, act_close, Move, held, opens, enters, updates, unfit, gives, ticks, restarts, move, moved, entries}
+use Rattle.board.specs.Acts.{spoken, counts, lendable, State, gate_of, Act, act_command, act_write, act_read, act_cycle, act_reset, act_take, act_close, Move, held, waits, enters, updates, unfit, gives, ticks, restarts, move, stepped, moved, after, entries}
 use Rattle.board.specs.Runs.{state_after, given, given_after}
 use Rattle.board.specs.Isolation.{own, answer_to, heard, shown_of}
 use Rattle.board.proofs.Tables.{by_two}
-use Rattle.board.proofs.Moves.{Ordinary, by_one, by_if, by_command, by_write, by_read}
+use Rattle.board.proofs.Moves.{Ordinary, by_one, by_if, by_step}
 
 replay-++ : (es ds : List Own) (g : Gate) → replay (es ++ ds) g ≡ replay es (replay ds g)
 replay-++ [] ds g = refl
@@ -22,11 +23,25 @@ replay-++ (e ∷ es) ds g = ap (λ x. step x e) (replay-++ es ds g)
 moved_gate : (s : State) (m : Move) (k : ℕ) → k < 2 → gate_of (moved s m) k ≡ replay (entries k m) (gate_of s k)
 moved_gate s m = by_two (λ k. gate_of (moved s m) k ≡ replay (entries k m) (gate_of s k)) refl refl
 
+-- the port moves on without the gates
+stepped_gate : (s : State) (a : Act) (k : ℕ) → gate_of (stepped s a) k ≡ gate_of s k
+stepped_gate s (act_command b) k = refl
+stepped_gate s (act_write w) k = refl
+stepped_gate s act_read k = refl
+stepped_gate s (act_cycle i j) k = refl
+stepped_gate s act_reset k = refl
+stepped_gate s act_take k = refl
+stepped_gate s (act_close j w) k = refl
+
+-- a gate after an act
+pub after_gate : (s : State) (a : Act) (k : ℕ) → k < 2 → gate_of (after s a) k ≡ replay (entries k (move s a)) (gate_of s k)
+after_gate s a k l = moved_gate (stepped s a) (move s a) k l ∙ ap (replay (entries k (move s a))) (stepped_gate s a k)
+
 -- each gate is what its own list makes of a new one
 pub replayed : (k : ℕ) → k < 2 → (h : List Act) → gate_of (state_after h) k ≡ alone (own k h)
 replayed k l [] = by_two (λ k. gate_of (state_after []) k ≡ fresh false) refl refl k l
 replayed k l (a ∷ h) =
-    moved_gate (state_after h) (move (state_after h) a) k l
+    after_gate (state_after h) a k l
     ∙ (ap (replay (entries k (move (state_after h) a))) (replayed k l h)
     ∙ sym (replay-++ (entries k (move (state_after h) a)) (own k h) (fresh false)))
 
@@ -46,7 +61,7 @@ by_fit false = refl
 -- what a move answers to gate k's entries is what the gate alone answers
 answers_are : (s : State) (m : Move) (k : ℕ) → k < 2 → map (answer_to s m) (entries k m) ≡ replies k (entries k m) (gate_of s k)
 answers_are s (held r) k l = refl
-answers_are s (opens p) k l = refl
+answers_are s waits k l = refl
 answers_are s (enters j e) k l = go (eqb j k) refl
   where
     at : (e : Own) → answer_to s (enters k e) e ≡ reply k (gate_of s k) e
@@ -69,7 +84,7 @@ answers_are s (updates w) k l = go (counts w k)
     go true = refl
     go false = refl
 answers_are s unfit k l = refl
-answers_are s (gives w p) k l = refl
+answers_are s (gives w) k l = refl
 answers_are s (ticks i j) k l = refl
 answers_are s restarts k l = refl
 
@@ -100,9 +115,9 @@ displays es = record { none = refl; orders = λ _. refl; words = λ _ _. refl; l
 -- what a board last gave the stage for gate k is what the gate alone gave
 pub displayed : (k : ℕ) → k < 2 → (h : List Act) → shown_of (given_after h) k ≡ display (own k h)
 displayed k l [] = by_two (λ k. shown_of dark k ≡ (pos 0, pos 0)) refl refl k l
-displayed k l (act_command b ∷ h) = displayed k l h ∙ sym (by_command (displays (own k h)) k (state_after h) (state_after h).port (decoded b))
-displayed k l (act_write w ∷ h) = displayed k l h ∙ sym (by_write (displays (own k h)) k (state_after h) (state_after h).port w)
-displayed k l (act_read ∷ h) = displayed k l h ∙ sym (by_read (displays (own k h)) k (state_after h).port)
+displayed k l (act_command b ∷ h) = displayed k l h ∙ sym (by_step (displays (own k h)) k (state_after h) (port_step (state_after h).port (incoming.Command b)))
+displayed k l (act_write w ∷ h) = displayed k l h ∙ sym (by_step (displays (own k h)) k (state_after h) (port_step (state_after h).port (incoming.Write w)))
+displayed k l (act_read ∷ h) = displayed k l h ∙ sym (by_step (displays (own k h)) k (state_after h) (port_step (state_after h).port incoming.Read))
 displayed k l (act_cycle i j ∷ h) =
     by_two (λ k. shown_of (given (state_after h) (act_cycle i j) dark) k ≡ shows (gate_of (state_after (act_cycle i j ∷ h)) k)) refl refl k l
     ∙ ap shows (replayed k l (act_cycle i j ∷ h))

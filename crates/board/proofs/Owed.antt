@@ -1,14 +1,20 @@
 -- What an act owes, from its answer, its state and its pairs.
-use Rattle.std.proofs.Common.{◌≡◌, ℕ, Bool, true, false, ℤ, sym, refl, ap, ◌∙◌}
+use Rattle.std.proofs.Common.{◌≡◌, ℕ, Bool, true, false, cond, ltb, ℤ, Some, None, Option, sym, refl, ap, ◌∙◌}
 use Rattle.stage.specs.declared.Stage.{Ghosts}
 use Rattle.stage.specs.Pairs.{Pair, Pairs, dark, shown}
 use Rattle.stage.proofs.Cuts.{cut_zero}
 use Rattle.gate.specs.Cycles.{shows}
+use Rattle.board.specs.declared.command.Command.{Command}
+use Rattle.board.specs.declared.command.Command.TheVariants.{Status, Ask, Now, Word, Long, MultiUpdate}
+use Rattle.board.specs.declared.port.Port.{Port}
+use Rattle.board.specs.declared.port.Port.TheVariants.{Idle, TakingWord, TakingHigh, TakingLow, TakingGates, Giving}
 use Rattle.board.specs.declared.refusal.Refusal.{Refusal}
 use Rattle.board.specs.declared.refusal.Refusal.TheVariants.{OutOfRange}
 use Rattle.board.specs.declared.board.Board.{Board}
 use Rattle.board.specs.Own.{restart, tick, told, told_word, told_long, asked, viewed, taken, closed, Answer, refused, ran_or_not}
-use Rattle.board.specs.Acts.{State, state_of, Act, act_command, act_write, act_read, act_cycle, act_reset, act_take, act_close, Move, held, opens, enters, updates, unfit, gives, ticks, restarts, move, moved, says, spoken, after, answer}
+use Rattle.board.specs.Acts.{State, state_of, Act, act_command, act_write, act_read, act_cycle, act_reset, act_take, act_close, Move, held, waits, enters, updates, unfit, gives, ticks, restarts, on_step, move, stepped, moved, says, spoken, after, answer}
+use Rattle.board.specs.Commands.{decoded}
+use Rattle.board.specs.Ports.{command_next, command_step, write_next, write_step, read_next, read_step}
 use Rattle.board.specs.Runs.{state_after, given, given_after, cuts, Did, KeepsStage, pairs_after}
 
 out_of_range : (fits : Bool) (e : Refusal) → spoken (ran_or_not fits) ≡ refused e → e ≡ OutOfRange
@@ -18,7 +24,7 @@ out_of_range false e h = cc
 -- an act that is refused, but for its value, leads nowhere
 held_still : (s : State) (m : Move) (e : Refusal) → says s m ≡ refused e → (e ≡ OutOfRange → ⊥) → moved s m ≡ s
 held_still s (held r) e h other = refl
-held_still s (opens p) e h other = cc
+held_still s waits e h other = cc
 held_still s (enters j restart) e h other = cc
 held_still s (enters j (tick i)) e h other = cc
 held_still s (enters j (told o)) e h other = cc
@@ -30,9 +36,56 @@ held_still s (enters j taken) e h other = cc
 held_still s (enters j (closed w)) e h other = cc
 held_still s (updates w) e h other = cc
 held_still s unfit e h other = absurd (other cc)
-held_still s (gives w p) e h other = cc
+held_still s (gives w) e h other = cc
 held_still s (ticks i j) e h other = cc
 held_still s restarts e h other = cc
+
+-- what comes to the port and is refused, but for its value, leaves the port as it stood
+command_still : (s : State) (p : Port) (c : Option Command) (e : Refusal) → says s (on_step s (command_step p c)) ≡ refused e → command_next p c ≡ p
+command_still s Idle (Some (Status w)) e h = refl
+command_still s Idle (Some (Ask q)) e h = refl
+command_still s Idle (Some (Now o)) e h = refl
+command_still s Idle (Some (Word o)) e h = cc
+command_still s Idle (Some (Long o)) e h = cc
+command_still s Idle (Some MultiUpdate) e h = cc
+command_still s Idle None e h = refl
+command_still s (TakingWord o) c e h = refl
+command_still s (TakingHigh o) c e h = refl
+command_still s (TakingLow o high) c e h = refl
+command_still s TakingGates c e h = refl
+command_still s (Giving w t) c e h = refl
+
+write_still : (s : State) (p : Port) (w : ℕ) (e : Refusal) → says s (on_step s (write_step p w)) ≡ refused e → (e ≡ OutOfRange → ⊥) → write_next p w ≡ p
+write_still s Idle w e h other = refl
+write_still s (TakingWord o) w e h other = absurd (other (out_of_range _ e h))
+write_still s (TakingHigh o) w e h other = cc
+write_still s (TakingLow o high) w e h other = absurd (other (out_of_range _ e h))
+write_still s TakingGates w e h other = absurd (other (go (ltb w 4) h))
+  where
+    go : (t : Bool) → says s (cond t (updates w) unfit) ≡ refused e → e ≡ OutOfRange
+    go true h = cc
+    go false h = cc
+write_still s (Giving a t) w e h other = refl
+
+read_still : (s : State) (p : Port) (e : Refusal) → says s (on_step s (read_step p)) ≡ refused e → read_next p ≡ p
+read_still s Idle e h = refl
+read_still s (TakingWord o) e h = refl
+read_still s (TakingHigh o) e h = refl
+read_still s (TakingLow o high) e h = refl
+read_still s TakingGates e h = refl
+read_still s (Giving w t) e h = cc
+
+stepped_still : (s : State) (a : Act) (e : Refusal) → answer s a ≡ refused e → (e ≡ OutOfRange → ⊥) → stepped s a ≡ s
+stepped_still s (act_command b) e h other = ap (λ p. record s { port = p }) (command_still s s.port (decoded b) e h)
+stepped_still s (act_write w) e h other = ap (λ p. record s { port = p }) (write_still s s.port w e h other)
+stepped_still s act_read e h other = ap (λ p. record s { port = p }) (read_still s s.port e h)
+stepped_still s (act_cycle i j) e h other = refl
+stepped_still s act_reset e h other = refl
+stepped_still s act_take e h other = refl
+stepped_still s (act_close k w) e h other = refl
+
+refused_still : (s : State) (a : Act) (e : Refusal) → answer s a ≡ refused e → (e ≡ OutOfRange → ⊥) → after s a ≡ s
+refused_still s a e h other = ap (λ z. moved z (move s a)) (stepped_still s a e h other) ∙ held_still s (move s a) e h other
 
 -- nothing is shown of nothing
 pub dark_cuts : (step : ℕ) → dark ≡ cuts step dark
@@ -74,7 +127,7 @@ module _ {S : Type 0} (m : Ghosts S) where
     pairs = pairs;
     stage = stage;
     kept = λ e h other. record {
-      state = state ∙ held_still (state_of b.table) (move (state_of b.table) a) e (sym says ∙ h) other;
+      state = state ∙ refused_still (state_of b.table) a e (sym says ∙ h) other;
       stage = stage_still b c a e (sym says ∙ h) stage;
       pairs = pairs ∙ pairs_still b a e (sym says ∙ h);
     };

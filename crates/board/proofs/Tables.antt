@@ -5,7 +5,8 @@ use Rattle.gate.specs.Orders.{checked}
 use Rattle.gate.specs.declared.orders.OutOfRange.{OutOfRange as Unfit}
 use Rattle.gate.specs.Sound.{Sound}
 use Rattle.gate.specs.declared.inputs.Inputs.{Inputs}
-use Rattle.gate.specs.Cycles.{cycled}
+use Rattle.gate.specs.Cycles.{cycled, shows}
+use Rattle.stage.specs.Pairs.{Pair}
 use Rattle.board.specs.declared.refusal.Refusal.TheVariants.{NoSlip, OutOfRange}
 use Rattle.board.specs.declared.table.Table.{Table}
 use Rattle.board.specs.Acts.{blank, state_of, gate_of, lendable, enters, enters_if, held, moved, says, after, answer as answered, act_cycle, act_take, act_close, current_by, port_by, spoken, Fit}
@@ -82,7 +83,7 @@ heard_answer true = refl
 heard_answer false = refl
 
 -- both gates after a cycle
-module _ (t u : Table) (l r : Inputs) (x y : Gate) (two_long : length t.gates ≡ 2) (gates : u.gates ≡ set (set t.gates 0 x) 1 y) where
+module _ (t u : Table) (x y : Gate) (two_long : length t.gates ≡ 2) (gates : u.gates ≡ set (set t.gates 0 x) 1 y) where
   first_is : get_or u.gates 0 blank ≡ x
   first_is = ap (λ gs. get_or gs 0 blank) gates ∙ front t.gates two_long
     where
@@ -99,12 +100,15 @@ module _ (t u : Table) (l r : Inputs) (x y : Gate) (two_long : length t.gates �
       back (a ∷ []) e = let no : ⊥ = omega arith in absurd no
       back (a ∷ b ∷ gs) e = refl
 
-  pub both_cycled : u.current ≡ t.current → u.port ≡ t.port → x ≡ cycled l (get_or t.gates 0 blank)
+  pub both_cycled : (l r : Inputs) → u.current ≡ t.current → u.port ≡ t.port → x ≡ cycled l (get_or t.gates 0 blank)
       → y ≡ cycled r (get_or (set t.gates 0 x) 1 blank) → state_of u ≡ after (state_of t) (act_cycle l r)
-  both_cycled current port e d =
+  both_cycled l r current port e d =
       let one = first_is ∙ e in
       let two = second_is ∙ (d ∙ ap (cycled r) (at_set t.gates x 0 1 two_long (lit< tt) (lit< tt))) in
       cc (one, two, current, port)
+
+  pub both_shown : (a b : Pair) → a ≡ shows x → b ≡ shows y → ◌≡◌ {A = Pair × Pair} (a, b) (shows (state_of u).one, shows (state_of u).two)
+  both_shown a b e d = cc (e ∙ ap shows (sym first_is), d ∙ ap shows (sym second_is))
 
   pub both_fit : Fit t → u.current < 2 → Sound x → Sound y → Fit u
   both_fit f c p q = record { current = c; one = subst Sound (sym first_is) p; two = subst Sound (sym second_is) q }

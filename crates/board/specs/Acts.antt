@@ -10,17 +10,17 @@ use Rattle.gate.specs.Events.{no_events}
 use Rattle.wave.specs.declared.phases.MotorKind.TheVariants.{TwoPhase}
 use Rattle.gate.specs.Queries.{answered, calling, status_word}
 use Rattle.gate.specs.Sound.{Sound}
-use Rattle.board.specs.declared.command.Command.{Command}
-use Rattle.board.specs.declared.command.Command.TheVariants.{Status, Ask, Now, Word, Long, MultiUpdate}
 use Rattle.board.specs.declared.command.Whose.{Whose}
 use Rattle.board.specs.declared.command.Whose.TheVariants.{First, Second, Calling, Current}
 use Rattle.board.specs.declared.port.Port.{Port}
-use Rattle.board.specs.declared.port.Port.TheVariants.{Idle, TakingWord, TakingHigh, TakingLow, TakingGates, Giving}
+use Rattle.board.specs.declared.port.Port.TheVariants.{Idle, Giving}
+use Rattle.board.specs.declared.port.Incoming.TheVariants as incoming
+use Rattle.board.specs.declared.port.Step.{Step}
+use Rattle.board.specs.declared.port.Step.TheVariants as step
 use Rattle.board.specs.declared.refusal.Refusal.{Refusal}
-use Rattle.board.specs.declared.refusal.Refusal.TheVariants.{Unknown, PacketOpen, NotTaking, NotGiving, OutOfRange, NoCall, NoSlip}
+use Rattle.board.specs.declared.refusal.Refusal.TheVariants.{OutOfRange, NoCall, NoSlip}
 use Rattle.board.specs.declared.table.Table.{Table}
-use Rattle.board.specs.Commands.{decoded}
-use Rattle.board.specs.Ports.{next_port}
+use Rattle.board.specs.Ports.{port_next, port_step}
 use Rattle.board.specs.Own.{Own, restart, tick, told, told_word, told_long, asked, viewed, taken, closed, Answer, done, refused, gave, fixed, slipped, reply, replay}
 
 -- a table, gate by gate; the current gate is 0 for gate 1 and 1 for gate 2
@@ -67,11 +67,11 @@ pub data Act : Type 0 where
 -- about, UPDATEs are counted, a value fits nothing, a word is given, a cycle, a reset
 pub data Move : Type 0 where
   held : Refusal → Move
-  opens : Port → Move
+  waits : Move
   enters : ℕ → Own → Move
   updates : ℕ → Move
   unfit : Move
-  gives : ℕ → Port → Move
+  gives : ℕ → Move
   ticks : Inputs → Inputs → Move
   restarts : Move
 
@@ -93,47 +93,36 @@ abbrev pub enters_if : Option ℕ → Own → Move
 enters_if (Some k) e = enters k e
 enters_if None e = held NoCall
 
-abbrev pub starts : State → Option Command → Move
-starts s (Some (Status w)) = enters_if (whose s w) (viewed w)
-starts s (Some (Ask q)) = enters s.current (asked q)
-starts s (Some (Now o)) = enters s.current (told o)
-starts s (Some (Word o)) = opens (TakingWord o)
-starts s (Some (Long o)) = opens (TakingHigh o)
-starts s (Some MultiUpdate) = opens TakingGates
-starts s None = held Unknown
-
-abbrev pub on_command : State → Port → Option Command → Move
-on_command s Idle c = starts s c
-on_command s (TakingWord o) c = held PacketOpen
-on_command s (TakingHigh o) c = held PacketOpen
-on_command s (TakingLow o high) c = held PacketOpen
-on_command s TakingGates c = held PacketOpen
-on_command s (Giving w t) c = held PacketOpen
-
-abbrev pub on_write : State → Port → ℕ → Move
-on_write s Idle w = held NotTaking
-on_write s (TakingWord o) w = enters s.current (told_word o w)
-on_write s (TakingHigh o) w = opens (TakingLow o w)
-on_write s (TakingLow o high) w = enters s.current (told_long o high w)
-on_write s TakingGates w = cond (nat_lt w 4) (updates w) unfit
-on_write s (Giving a t) w = held NotTaking
-
-abbrev pub on_read : Port → Move
-on_read Idle = held NotGiving
-on_read (TakingWord o) = held NotGiving
-on_read (TakingHigh o) = held NotGiving
-on_read (TakingLow o high) = held NotGiving
-on_read TakingGates = held NotGiving
-on_read (Giving w t) = gives w (next_port t)
+-- what is done of what the port found
+abbrev pub on_step : State → Result Step Refusal → Move
+on_step s (Err r) = held r
+on_step s (Ok step.Wait) = waits
+on_step s (Ok (step.View w)) = enters_if (whose s w) (viewed w)
+on_step s (Ok (step.Ask q)) = enters s.current (asked q)
+on_step s (Ok (step.Run o)) = enters s.current (told o)
+on_step s (Ok (step.Word o w)) = enters s.current (told_word o w)
+on_step s (Ok (step.Long o high low)) = enters s.current (told_long o high low)
+on_step s (Ok (step.Gates w)) = cond (nat_lt w 4) (updates w) unfit
+on_step s (Ok (step.Give w)) = gives w
 
 abbrev pub move : State → Act → Move
-move s (act_command b) = on_command s s.port (decoded b)
-move s (act_write w) = on_write s s.port w
-move s act_read = on_read s.port
+move s (act_command b) = on_step s (port_step s.port (incoming.Command b))
+move s (act_write w) = on_step s (port_step s.port (incoming.Write w))
+move s act_read = on_step s (port_step s.port incoming.Read)
 move s (act_cycle i j) = ticks i j
 move s act_reset = restarts
 move s act_take = enters_if (lendable s) taken
 move s (act_close k w) = cond (gate_of s k).slip (enters k (closed w)) (held NoSlip)
+
+-- the state with the port moved on by what an act brings to it
+abbrev pub stepped : State → Act → State
+stepped s (act_command b) = record s { port = port_next s.port (incoming.Command b) }
+stepped s (act_write w) = record s { port = port_next s.port (incoming.Write w) }
+stepped s act_read = record s { port = port_next s.port incoming.Read }
+stepped s (act_cycle i j) = s
+stepped s act_reset = s
+stepped s act_take = s
+stepped s (act_close k w) = s
 
 -- whether a word of MULTI_UPDATE counts gate k: bit 0 for gate 1, bit 1 for gate 2
 abbrev pub counts : ℕ → ℕ → Bool
@@ -142,11 +131,11 @@ counts w k = cond (k == 0) (w % 2 == 1) (w / 2 == 1)
 -- what of a move stands in the own list of gate k
 abbrev pub entries : ℕ → Move → List Own
 entries k (held r) = []
-entries k (opens p) = []
+entries k waits = []
 entries k (enters j e) = cond (j == k) (e ∷ []) []
 entries k (updates w) = cond (counts w k) (told Update ∷ []) []
 entries k unfit = []
-entries k (gives w p) = []
+entries k (gives w) = []
 entries k (ticks i j) = tick (cond (k == 0) i j) ∷ []
 entries k restarts = restart ∷ []
 
@@ -164,21 +153,21 @@ current_by n j (closed w) = n
 
 abbrev pub current_after : ℕ → Move → ℕ
 current_after n (held r) = n
-current_after n (opens p) = n
+current_after n waits = n
 current_after n (enters j e) = current_by n j e
 current_after n (updates w) = n
 current_after n unfit = n
-current_after n (gives w p) = n
+current_after n (gives w) = n
 current_after n (ticks i j) = n
 current_after n restarts = 0
 
--- a packet that runs closes, a read command's gives its answer, and slips leave the port alone
+-- a read command fixes its answer; of any other entry the port knows already
 abbrev pub port_by : State → ℕ → Own → Port
-port_by s j restart = Idle
+port_by s j restart = s.port
 port_by s j (tick i) = s.port
-port_by s j (told o) = Idle
-port_by s j (told_word o w) = Idle
-port_by s j (told_long o h l) = Idle
+port_by s j (told o) = s.port
+port_by s j (told_word o w) = s.port
+port_by s j (told_long o h l) = s.port
 port_by s j (asked q) = Giving (answered q (gate_of s j) / 65536) (Some (answered q (gate_of s j) % 65536))
 port_by s j (viewed w) = Giving (status_word j (gate_of s j)) None
 port_by s j taken = s.port
@@ -186,14 +175,15 @@ port_by s j (closed w) = s.port
 
 abbrev pub port_after : State → Move → Port
 port_after s (held r) = s.port
-port_after s (opens p) = p
+port_after s waits = s.port
 port_after s (enters j e) = port_by s j e
-port_after s (updates w) = Idle
-port_after s unfit = Idle
-port_after s (gives w p) = p
+port_after s (updates w) = s.port
+port_after s unfit = s.port
+port_after s (gives w) = s.port
 port_after s (ticks i j) = s.port
 port_after s restarts = Idle
 
+-- the state that a move leads to, from one whose port has moved on
 abbrev pub moved : State → Move → State
 moved s m = record { one = replay (entries 0 m) s.one; two = replay (entries 1 m) s.two; current = current_after s.current m; port = port_after s m }
 
@@ -207,16 +197,16 @@ spoken (slipped k) = slipped k
 
 abbrev pub says : State → Move → Answer
 says s (held r) = refused r
-says s (opens p) = done
+says s waits = done
 says s (enters j e) = spoken (reply j (gate_of s j) e)
 says s (updates w) = done
 says s unfit = refused OutOfRange
-says s (gives w p) = gave w
+says s (gives w) = gave w
 says s (ticks i j) = done
 says s restarts = done
 
 abbrev pub after : State → Act → State
-after s a = moved s (move s a)
+after s a = moved (stepped s a) (move s a)
 
 abbrev pub answer : State → Act → Answer
 answer s a = says s (move s a)

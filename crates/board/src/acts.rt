@@ -1,15 +1,16 @@
-ghost use Rattle.std.specs.Prelude.{◌≡◌, ◌<◌, IfOk, Some};
+ghost use Rattle.std.specs.Prelude.{◌≡◌, ◌<◌, IfOk};
 ghost use Rattle.gate.specs.Cycles.{shows};
-ghost use Rattle.board.specs.Acts.{state_of, after, answer, starts, enters_if, whose, moved, says, updates, heard_done, heard_word, heard_gate, act_command, act_write, act_read, act_cycle, act_reset, act_take, act_close, Fit};
-ghost use Rattle.board.specs.Own.{viewed};
+ghost use Rattle.board.specs.Acts.{state_of, after, answer, enters, enters_if, whose, moved, says, updates, heard_done, heard_word, heard_gate, act_command, act_write, act_read, act_cycle, act_reset, act_take, act_close, Fit};
+ghost use Rattle.board.specs.Own.{asked, viewed};
 
-use crate::command::{Command, Whose};
+use crate::command::Whose;
 use crate::port::{Incoming, Port, Step};
 use crate::refusal::Refusal;
 use crate::table::Table;
 use gate::gate::Gate;
 use gate::inputs::Inputs;
 use gate::orders::Order;
+use gate::queries::Query;
 
 impl Table {
     // Makes the named gate current, and gives its status.
@@ -26,29 +27,18 @@ impl Table {
         Ok(())
     }
 
-    // Starts the packet of a command, at an idle port.
-    fn start(&mut self, command: Command) -> Result<(), Refusal>
+    // Fixes the answer to a question, as two words that wait.
+    fn fix(&mut self, query: Query)
         requires { Fit self.old }
-        ensures answer { heard_done result ≡ says (state_of self.old) (starts (state_of self.old) (Some command)) }
-        ensures state { state_of self.new ≡ moved (state_of self.old) (starts (state_of self.old) (Some command)) }
+        ensures state { state_of self.new ≡ moved (state_of self.old) (enters self.old.current (asked query)) }
         ensures fit { Fit self.new }
     {
-        match command {
-            Command::Status(named) => return self.view(named),
-            Command::Ask(query) => {
-                let value = self.ask(query);
-                let word = (value / 65_536) as u16;
-                self.port = Port::Giving {
-                    word,
-                    then: Some((value % 65_536) as u16),
-                };
-            }
-            Command::Now(order) => self.run(order),
-            Command::Word(order) => self.port = Port::TakingWord { order },
-            Command::Long(order) => self.port = Port::TakingHigh { order },
-            Command::MultiUpdate => self.port = Port::TakingGates,
-        }
-        Ok(())
+        let value = self.ask(query);
+        let word = (value / 65_536) as u16;
+        self.port = Port::Giving {
+            word,
+            then: Some((value % 65_536) as u16),
+        };
     }
 
     pub fn command(&mut self, code: u8) -> Result<(), Refusal>
@@ -58,19 +48,22 @@ impl Table {
         ensures fit { Fit self.new }
     {
         match self.port.step(Incoming::Command(code))? {
-            Step::Start(command) => self.start(command),
+            Step::Wait => {}
+            Step::View(named) => self.view(named)?,
+            Step::Ask(query) => self.fix(query),
+            Step::Run(order) => self.run(order),
             _ => unreachable!(),
         }
+        Ok(())
     }
 
-    // Counts an UPDATE for each gate whose bit is set, and closes the packet.
+    // Counts an UPDATE for each gate whose bit is set.
     fn multi_update(&mut self, word: u16)
         requires fit { Fit self.old }
         requires word { word < 4 }
         ensures state { state_of self.new ≡ moved (state_of self.old) (updates word) }
         ensures fit { Fit self.new }
     {
-        self.port = Port::Idle;
         if word % 2 == 1 {
             self.gates[0].run(Order::Update);
         }
@@ -112,25 +105,7 @@ impl Table {
         }
     }
 
-    // One cycle of both gates, but for their phases.
-    #[inline(always)]
-    fn turn(&mut self, left: Inputs, right: Inputs)
-        requires { Fit self.old }
-        ensures state { state_of self.new ≡ after (state_of self.old) (act_cycle left right) }
-        ensures fit { Fit self.new }
-    {
-        self.gates[0].turn(left);
-        self.gates[1].turn(right);
-    }
-
-    // The phases that the gates are to show.
-    fn phases(&self) -> ((i32, i32), (i32, i32))
-        requires { Fit self.now }
-        ensures { result ≡ (shows (state_of self.now).one, shows (state_of self.now).two) }
-    {
-        (self.gates[0].phases(), self.gates[1].phases())
-    }
-
+    // One cycle of both gates, and the phases that they are to show.
     #[inline(always)]
     pub fn cycle(&mut self, left: Inputs, right: Inputs) -> ((i32, i32), (i32, i32))
         requires { Fit self.old }
@@ -138,8 +113,9 @@ impl Table {
         ensures state { state_of self.new ≡ after (state_of self.old) (act_cycle left right) }
         ensures fit { Fit self.new }
     {
-        self.turn(left, right);
-        self.phases()
+        let one = self.gates[0].cycle(left);
+        let two = self.gates[1].cycle(right);
+        (one, two)
     }
 
     pub fn reset(&mut self)

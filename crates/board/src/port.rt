@@ -1,9 +1,10 @@
 ghost use Rattle.std.specs.Prelude.{◌≡◌};
-ghost use Rattle.board.specs.Ports.{port_next, port_step};
+ghost use Rattle.board.specs.Ports.{next_port, port_next, port_step};
 
-use crate::command::Command;
+use crate::command::{Command, Whose};
 use crate::refusal::Refusal;
-use gate::orders::{LongOrder, WordOrder};
+use gate::orders::{LongOrder, Order, WordOrder};
+use gate::queries::Query;
 
 // Where the packet stands that is on its way: none, one that takes words, or one that gives them.
 #[derive(Clone, Copy)]
@@ -27,8 +28,11 @@ pub enum Incoming {
 // What is to be done about it; one type for every act, since the port is one match on its state and the act together.
 #[derive(Clone, Copy)]
 pub enum Step {
-    Start(Command),
+    // the packet waits for a word
     Wait,
+    View(Whose),
+    Ask(Query),
+    Run(Order),
     Word(WordOrder, u16),
     Long(LongOrder, u16, u16),
     Gates(u16),
@@ -42,37 +46,43 @@ impl Port {
         ensures port { self.new ≡ port_next self.old incoming }
         ensures step { result ≡ port_step self.old incoming }
     {
-        match (*self, incoming) {
-            (Port::Idle, Incoming::Command(code)) => Ok(Step::Start(Command::try_from(code)?)),
-            (_, Incoming::Command(_)) => Err(Refusal::PacketOpen),
+        let (port, step) = match (*self, incoming) {
+            (Port::Idle, Incoming::Command(code)) => match Command::try_from(code)? {
+                Command::Status(named) => (Port::Idle, Step::View(named)),
+                Command::Ask(query) => (Port::Idle, Step::Ask(query)),
+                Command::Now(order) => (Port::Idle, Step::Run(order)),
+                Command::Word(order) => (Port::TakingWord { order }, Step::Wait),
+                Command::Long(order) => (Port::TakingHigh { order }, Step::Wait),
+                Command::MultiUpdate => (Port::TakingGates, Step::Wait),
+            },
+            (_, Incoming::Command(_)) => return Err(Refusal::PacketOpen),
             (Port::TakingWord { order }, Incoming::Write(word)) => {
-                *self = Port::Idle;
-                Ok(Step::Word(order, word))
+                (Port::Idle, Step::Word(order, word))
             }
             (Port::TakingHigh { order }, Incoming::Write(high)) => {
-                *self = Port::TakingLow { order, high };
-                Ok(Step::Wait)
+                (Port::TakingLow { order, high }, Step::Wait)
             }
             (Port::TakingLow { order, high }, Incoming::Write(low)) => {
-                *self = Port::Idle;
-                Ok(Step::Long(order, high, low))
+                (Port::Idle, Step::Long(order, high, low))
             }
-            (Port::TakingGates, Incoming::Write(word)) => {
-                *self = Port::Idle;
-                Ok(Step::Gates(word))
+            (Port::TakingGates, Incoming::Write(word)) => (Port::Idle, Step::Gates(word)),
+            (Port::Idle | Port::Giving { .. }, Incoming::Write(_)) => {
+                return Err(Refusal::NotTaking);
             }
-            (Port::Idle | Port::Giving { .. }, Incoming::Write(_)) => Err(Refusal::NotTaking),
-            (Port::Giving { word, then }, Incoming::Read) => {
-                *self = match then {
-                    Some(next) => Port::Giving {
-                        word: next,
-                        then: None,
-                    },
-                    None => Port::Idle,
-                };
-                Ok(Step::Give(word))
-            }
-            (_, Incoming::Read) => Err(Refusal::NotGiving),
+            (Port::Giving { word, then }, Incoming::Read) => (Port::behind(then), Step::Give(word)),
+            (_, Incoming::Read) => return Err(Refusal::NotGiving),
+        };
+        *self = port;
+        Ok(step)
+    }
+
+    // The port once a word is given: the next word waits, or none.
+    fn behind(then: Option<u16>) -> Port
+        ensures { result ≡ next_port then }
+    {
+        match then {
+            Some(word) => Port::Giving { word, then: None },
+            None => Port::Idle,
         }
     }
 }

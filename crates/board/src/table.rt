@@ -85,13 +85,11 @@ impl Table {
         self.gates[self.current as usize].answer(query)
     }
 
-    // Runs a packet of the current gate, and closes it.
     pub(crate) fn run(&mut self, order: Order)
         requires { Fit self.old }
         ensures state { state_of self.new ≡ moved (state_of self.old) (enters self.old.current (told order)) }
         ensures fit { Fit self.new }
     {
-        self.port = Port::Idle;
         self.gates[self.current as usize].run(order);
     }
 
@@ -101,7 +99,6 @@ impl Table {
         ensures state { state_of self.new ≡ moved (state_of self.old) (enters self.old.current (told_word order word)) }
         ensures fit { Fit self.new }
     {
-        self.port = Port::Idle;
         self.gates[self.current as usize]
             .run_word(order, word)
             .map_err(Refusal::from)
@@ -113,7 +110,6 @@ impl Table {
         ensures state { state_of self.new ≡ moved (state_of self.old) (enters self.old.current (told_long order high low)) }
         ensures fit { Fit self.new }
     {
-        self.port = Port::Idle;
         let value = join(high, low);
         self.gates[self.current as usize]
             .run_long(order, value)
