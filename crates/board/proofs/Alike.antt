@@ -9,8 +9,8 @@ use Rattle.gate.specs.Gates.{fresh}
 use Rattle.board.specs.declared.board.Board.{Board}
 use Rattle.board.specs.Own.{alone}
 use Rattle.board.specs.Acts.{state_of, gate_of, Act}
-use Rattle.board.specs.Runs.{given_after, cuts, Came}
-use Rattle.board.specs.Isolation.{own, book, shown_of, Near, Booked, Isolated}
+use Rattle.board.specs.Runs.{shown_of, given_after, cuts, Came}
+use Rattle.board.specs.Isolation.{own, book, Near, Booked, Isolated}
 use Rattle.board.proofs.Tables.{by_two}
 use Rattle.board.proofs.Lists.{replayed, replies, answered, display, displayed}
 use Rattle.board.proofs.Books.{booked}

@@ -11,8 +11,8 @@ use Rattle.board.specs.declared.port.Incoming.TheVariants as incoming
 use Rattle.board.specs.Ports.{port_step}
 use Rattle.board.specs.Own.{ran_or_not, Own, restart, tick, told, told_word, told_long, asked, viewed, taken, closed, Answer, joined, step, reply, replay, alone}
 use Rattle.board.specs.Acts.{spoken, counts, lendable, State, gate_of, Act, act_command, act_write, act_read, act_cycle, act_reset, act_take, act_close, Move, held, waits, enters, updates, unfit, gives, ticks, restarts, move, stepped, moved, after, entries}
-use Rattle.board.specs.Runs.{state_after, given, given_after}
-use Rattle.board.specs.Isolation.{own, answer_to, heard, shown_of}
+use Rattle.board.specs.Runs.{shown_of, state_after, given, given_after}
+use Rattle.board.specs.Isolation.{own, answer_to, heard}
 use Rattle.board.proofs.Tables.{by_two}
 use Rattle.board.proofs.Moves.{Ordinary, by_one, by_if, by_step}
 

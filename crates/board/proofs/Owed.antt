@@ -1,5 +1,5 @@
 -- What an act owes, from its answer, its state and its pairs.
-use Rattle.std.proofs.Common.{◌≡◌, ℕ, Bool, true, false, cond, ltb, ℤ, Some, None, Option, sym, refl, ap, ◌∙◌}
+use Rattle.std.proofs.Common.{◌≡◌, ℕ, Bool, true, false, cond, ltb, ℤ, Some, None, Option, sym, refl, ap, ◌∙◌, subst, []}
 use Rattle.stage.specs.declared.Stage.{Ghosts}
 use Rattle.stage.specs.Pairs.{Pair, Pairs, dark, shown}
 use Rattle.stage.proofs.Cuts.{cut_zero}
@@ -12,10 +12,12 @@ use Rattle.board.specs.declared.refusal.Refusal.{Refusal}
 use Rattle.board.specs.declared.refusal.Refusal.TheVariants.{OutOfRange}
 use Rattle.board.specs.declared.board.Board.{Board}
 use Rattle.board.specs.Own.{restart, tick, told, told_word, told_long, asked, viewed, taken, closed, Answer, refused, ran_or_not}
-use Rattle.board.specs.Acts.{State, state_of, Act, act_command, act_write, act_read, act_cycle, act_reset, act_take, act_close, Move, held, waits, enters, updates, unfit, gives, ticks, restarts, on_step, move, stepped, moved, says, spoken, after, answer}
+use Rattle.board.specs.Acts.{State, state_of, gate_of, entries, Act, act_command, act_write, act_read, act_cycle, act_reset, act_take, act_close, Move, held, waits, enters, updates, unfit, gives, ticks, restarts, on_step, move, stepped, moved, says, spoken, after, answer}
 use Rattle.board.specs.Commands.{decoded}
 use Rattle.board.specs.Ports.{command_next, command_step, write_next, write_step, read_next, read_step}
-use Rattle.board.specs.Runs.{state_after, given, given_after, cuts, Did, KeepsStage, pairs_after}
+use Rattle.board.specs.Owners.{Turns}
+use Rattle.board.proofs.Owners.{no_entry, other_gate, spared_gate, turns}
+use Rattle.board.specs.Runs.{shown_of, state_after, given, given_after, cuts, Did, KeepsStage, pairs_after}
 
 out_of_range : (fits : Bool) (e : Refusal) → spoken (ran_or_not fits) ≡ refused e → e ≡ OutOfRange
 out_of_range true e h = cc
@@ -110,6 +112,15 @@ module _ {S : Type 0} (m : Ghosts S) where
   stage_still b c act_take e h k = k
   stage_still b c (act_close j w) e h k = k
 
+  pair_spared : (b : Board S m) (a : Act) (k : ℕ) → entries k (move (state_of b.table) a) ≡ [] → shown_of (pairs_after m b a) k ≡ shown_of (m.pairs b.stage) k
+  pair_spared b (act_cycle i j) k h = cc
+  pair_spared b act_reset k h = cc
+  pair_spared b (act_command x) k h = refl
+  pair_spared b (act_write w) k h = refl
+  pair_spared b act_read k h = refl
+  pair_spared b act_take k h = refl
+  pair_spared b (act_close j w) k h = refl
+
   pairs_on : (b : Board S m) (a : Act) (s : State) (p : Pairs) → state_of b.table ≡ s → m.pairs b.stage ≡ cuts m.STEP p → pairs_after m b a ≡ cuts m.STEP (given s a p)
   pairs_on b (act_cycle i j) s p e h = ap (λ z. cuts m.STEP (given z (act_cycle i j) dark)) e
   pairs_on b act_reset s p e h = dark_cuts m.STEP
@@ -131,6 +142,12 @@ module _ {S : Type 0} (m : Ghosts S) where
       stage = stage_still b c a e (sym says ∙ h) stage;
       pairs = pairs ∙ pairs_still b a e (sym says ∙ h);
     };
+    turns = subst (Turns (state_of b.table) a) (sym state) (turns (state_of b.table) a);
+    spared = λ k l no. record {
+      record_stays = ap (λ z. gate_of z k) state ∙ spared_gate k l (state_of b.table) a no;
+      pair_stays = ap (λ p. shown_of p k) pairs ∙ pair_spared b a k (no_entry k l (state_of b.table) a no);
+    };
+    packet = λ k l at taking no. ap (λ z. gate_of z k) state ∙ other_gate k l (state_of b.table) a at taking no;
     came = λ h came. record {
       state = state ∙ ap (λ s. after s a) came.state;
       pairs = pairs ∙ pairs_on b a (state_after h) (given_after h) came.state came.pairs;

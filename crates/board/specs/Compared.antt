@@ -4,7 +4,7 @@ use Rattle.stage.specs.declared.Stage.{Ghosts}
 use Rattle.board.specs.declared.board.Board.{Board}
 use Rattle.board.specs.declared.board.compare.Comparison.{Comparison}
 use Rattle.board.specs.Acts.{state_of, gate_of}
-use Rattle.board.specs.Isolation.{shown_of}
+use Rattle.board.specs.Runs.{shown_of}
 
 -- whether the records of gate k are equal, and how far apart the phases are that the stages show
 pub record Compared {S R : Type 0} (m : Ghosts S) (b : Board S m) (n : Ghosts R) (d : Board R n) (k : ℕ) (r : Comparison) : Type 0 where

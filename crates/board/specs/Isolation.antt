@@ -1,9 +1,8 @@
 -- What a gate's record, answers, pair and registers hang on: its own list, and nothing else of a board's history.
-use Rattle.std.specs.Prelude.{◌≡◌, ℕ, ◌<◌, max, Bool, cond, ◌&&◌, List, [], ◌∷◌, ◌++◌, map, ℤ, pos, ◌+ℤ◌, ◌<ℤ◌, Some, None, Option, ◌==◌}
+use Rattle.std.specs.Prelude.{◌≡◌, ℕ, ◌<◌, max, Bool, cond, ◌&&◌, List, [], ◌∷◌, ◌++◌, map, ℤ, pos, ◌+ℤ◌, ◌<ℤ◌, Some, None, Option}
 use Rattle.std.specs.Int.{w32}
 use Rattle.std.proofs.Common.{to_z}
 use Rattle.stage.specs.declared.Stage.{Ghosts}
-use Rattle.stage.specs.Pairs.{Pair, Pairs}
 use Rattle.gate.specs.declared.gate.Gate.{Gate}
 use Rattle.gate.specs.declared.inputs.Inputs.{Inputs}
 use Rattle.gate.specs.declared.orders.Order.{Order}
@@ -19,7 +18,8 @@ use Rattle.board.specs.declared.port.Port.TheVariants.{Idle, TakingWord, TakingH
 use Rattle.board.specs.declared.board.Board.{Board}
 use Rattle.board.specs.Own.{Own, restart, tick, told, told_word, told_long, asked, viewed, taken, closed, Answer, done, fixed, joined, alone}
 use Rattle.board.specs.Acts.{State, state_of, gate_of, Act, Move, move, entries, port_after, says}
-use Rattle.board.specs.Runs.{state_after, Came}
+use Rattle.board.specs.Owners.{Enters}
+use Rattle.board.specs.Runs.{state_after, shown_of, Came}
 
 -- the own list of gate k, 0 for gate 1 and 1 for gate 2: what of each act stands in it, the newest first
 abbrev pub own : ℕ → List Act → List Own
@@ -105,9 +105,9 @@ pub record Near (d : ℕ) (x y : ℤ) : Type 0 where
   pub below : x <ℤ (y +ℤ pos d)
   pub above : y <ℤ (x +ℤ pos d)
 
--- gate k's pair
-abbrev pub shown_of : Pairs → ℕ → Pair
-shown_of p k = cond (k == 0) p.one p.two
+-- over every history an own list grows, act by act, by the entry that belongs to its gate, and by nothing else
+abbrev pub Attributed : Type 0
+Attributed = (k : ℕ) → k < 2 → (a : Act) → (h : List Act) → Enters k (state_after h) a (own k h) (own k (a ∷ h))
 
 -- one board alone: the active registers of each gate are those latched in the book of its own list
 module _ {S : Type 0} (m : Ghosts S) (b : Board S m) where

@@ -3,6 +3,7 @@ pub mod Commands
 pub mod Ports
 pub mod Own
 pub mod Acts
+pub mod Owners
 pub mod Runs
 pub mod Isolation
 pub mod Compared

@@ -1,16 +1,17 @@
 -- Histories: lists of acts, the newest first, and what each act owes.
-use Rattle.std.specs.Prelude.{◌≡◌, ℕ, false, List, [], ◌∷◌, Ok, Err, Result, ◌≢◌}
+use Rattle.std.specs.Prelude.{◌≡◌, ℕ, false, ◌<◌, cond, ◌==◌, List, [], ◌∷◌, Ok, Err, Result, ◌≢◌}
 use Rattle.stage.specs.declared.Stage.{Ghosts}
-use Rattle.stage.specs.Pairs.{Pairs, cut_pair, dark}
+use Rattle.stage.specs.Pairs.{Pair, Pairs, cut_pair, dark}
 use Rattle.gate.specs.Cycles.{shows}
 use Rattle.gate.specs.Gates.{fresh}
 use Rattle.board.specs.declared.refusal.Refusal.{Refusal}
 use Rattle.board.specs.declared.refusal.Refusal.TheVariants.{OutOfRange}
-use Rattle.board.specs.declared.port.Port.TheVariants.{Idle}
+use Rattle.board.specs.declared.port.Port.TheVariants.{Idle, TakingGates}
 use Rattle.board.specs.declared.board.Board.{Board}
 use Rattle.board.specs.declared.slip.Slip.{Slip}
 use Rattle.board.specs.Own.{Answer, refused, slipped, done}
-use Rattle.board.specs.Acts.{State, state_of, Act, act_command, act_write, act_read, act_cycle, act_reset, act_take, act_close, after, answer}
+use Rattle.board.specs.Owners.{IsAtPort, IsForeign, Turns}
+use Rattle.board.specs.Acts.{State, state_of, gate_of, Act, act_command, act_write, act_read, act_cycle, act_reset, act_take, act_close, after, answer}
 
 abbrev pub heard_slip : Result Slip Refusal → Answer
 heard_slip (Ok s) = slipped s.gate
@@ -47,6 +48,10 @@ given_after (a ∷ h) = given (state_after h) a (given_after h)
 abbrev pub cuts : ℕ → Pairs → Pairs
 cuts step p = record { one = cut_pair step p.one; two = cut_pair step p.two }
 
+-- gate k's pair
+abbrev pub shown_of : Pairs → ℕ → Pair
+shown_of p k = cond (k == 0) p.one p.two
+
 -- a board, over a make m of stage
 module _ {S : Type 0} (m : Ghosts S) where
   -- the board came to be, from a new one, by the acts of h
@@ -80,6 +85,11 @@ module _ {S : Type 0} (m : Ghosts S) where
   KeepsStage act_take b c = c.stage ≡ b.stage
   KeepsStage (act_close k w) b c = c.stage ≡ b.stage
 
+  -- gate k's record and its pair are those that were
+  pub record SparesGate (k : ℕ) (b c : Board S m) : Type 0 where
+    pub record_stays : gate_of (state_of c.table) k ≡ gate_of (state_of b.table) k
+    pub pair_stays : shown_of (m.pairs c.stage) k ≡ shown_of (m.pairs b.stage) k
+
   -- the act a, answered by x, makes c of the board b
   pub record Did (a : Act) (x : Answer) (b c : Board S m) : Type 0 where
     pub says : x ≡ answer (state_of b.table) a
@@ -88,4 +98,12 @@ module _ {S : Type 0} (m : Ghosts S) where
     pub stage : KeepsStage a b c
     -- a refusal but a write's 5 leaves everything as it stood
     pub kept : (e : Refusal) → x ≡ refused e → (e ≢ OutOfRange) → Same b c
+    -- gate 1 is current after a reset, a gate after its status is asked, and else the one that was
+    pub turns : Turns (state_of b.table) a (state_of c.table)
+    -- an act that is no gate k's leaves its record and its pair as they were
+    pub spared : (k : ℕ) → k < 2 → IsForeign k (state_of b.table) a → SparesGate k b c
+    -- so a packet other than MULTI_UPDATE changes at most the record of the gate that is current
+    pub packet :
+        (k : ℕ) → k < 2 → IsAtPort a → (state_of b.table).port ≢ TakingGates → k ≢ (state_of b.table).current
+        → gate_of (state_of c.table) k ≡ gate_of (state_of b.table) k
     pub came : (h : List Act) → Came h b → Came (a ∷ h) c

@@ -1,7 +1,7 @@
 ghost use Rattle.std.specs.Prelude.{◌≡◌, ◌-◌, ◌<◌, true, false, ◌-ℤ◌, Decides, MatchOption, unsigned_abs};
 ghost use Rattle.stage.specs.Pairs.{is_gate};
 ghost use Rattle.board.specs.Acts.{state_of, gate_of};
-ghost use Rattle.board.specs.Isolation.{Isolated, Booked};
+ghost use Rattle.board.specs.Isolation.{Attributed, Isolated, Booked};
 ghost use Rattle.board.specs.Compared.{Compared};
 
 use crate::board::Board;
@@ -56,6 +56,7 @@ pub fn compare<S: Stage + Drop, R: Stage + Drop>(
     ensures isolated { Isolated S.Stage left.now R.Stage right.now }
     ensures booked { Booked S.Stage left.now }
     ensures other { Booked R.Stage right.now }
+    ensures attributed { Attributed }
 {
     matches!(gate, 1 | 2).then(|| compared(left, right, gate))
 }

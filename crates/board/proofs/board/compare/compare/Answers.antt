@@ -1,4 +1,5 @@
 use Rattle.board.proofs.Alike.{booked_board, isolated}
+use Rattle.board.proofs.Owners.{entered}
 use Rattle.board.proofs.board.compare.compare.Goals as goal
 
 pub returns-clause-isolated : goal.returns-clause-isolated
@@ -9,3 +10,6 @@ returns-clause-booked g c = booked_board _ _
 
 pub returns-clause-other : goal.returns-clause-other
 returns-clause-other g c = booked_board _ _
+
+pub returns-clause-attributed : goal.returns-clause-attributed
+returns-clause-attributed g c = entered
