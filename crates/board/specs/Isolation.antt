@@ -65,20 +65,20 @@ abbrev pub new_book : Book
 new_book = record { loaded = first_profile; latched = first_profile }
 
 abbrev pub copied : Book → Book
-copied b = record { loaded = b.loaded; latched = b.loaded }
+copied b = record b { latched = b.loaded }
 
 abbrev pub book_order : Order → Book → Book
-book_order (Mode m) b = record { loaded = record { destination = b.loaded.destination; velocity = b.loaded.velocity; acceleration = b.loaded.acceleration; mode = m }; latched = b.latched }
-book_order Stop b = record { loaded = record { destination = b.loaded.destination; velocity = 0; acceleration = b.loaded.acceleration; mode = b.loaded.mode }; latched = b.latched }
+book_order (Mode m) b = record b { loaded = record b.loaded { mode = m } }
+book_order Stop b = record b { loaded = record b.loaded { velocity = 0 } }
 book_order Update b = copied b
 book_order (Auto on) b = b
 book_order (Break m) b = b
 book_order (Motor kind) b = b
 
 abbrev pub book_long : LongOrder → ℕ → Book → Book
-book_long long.Destination v b = record { loaded = record { destination = to_z w32 v; velocity = b.loaded.velocity; acceleration = b.loaded.acceleration; mode = b.loaded.mode }; latched = b.latched }
-book_long long.Velocity v b = record { loaded = record { destination = b.loaded.destination; velocity = v; acceleration = b.loaded.acceleration; mode = b.loaded.mode }; latched = b.latched }
-book_long long.Acceleration v b = record { loaded = record { destination = b.loaded.destination; velocity = b.loaded.velocity; acceleration = to_z w32 v; mode = b.loaded.mode }; latched = b.latched }
+book_long long.Destination v b = record b { loaded = record b.loaded { destination = to_z w32 v } }
+book_long long.Velocity v b = record b { loaded = record b.loaded { velocity = v } }
+book_long long.Acceleration v b = record b { loaded = record b.loaded { acceleration = to_z w32 v } }
 book_long long.Point v b = b
 book_long long.Actual v b = b
 
