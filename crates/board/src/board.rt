@@ -7,7 +7,8 @@ pub mod calls;
 pub mod compare;
 pub mod questions;
 
-// Two gates over one output stage, of any make. No board can exist with a register outside its range.
+/// Two gates and a port over one output stage, of any make. No board can exist with a register outside its range. Its rules:
+/// `docs/BOARD.md`.
 #[derive(Drop)]
 pub struct Board<S: Stage + Drop> {
     table: Table,

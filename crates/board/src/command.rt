@@ -8,23 +8,33 @@ use gate::profile::ProfileMode;
 use gate::queries::Query;
 use wave::phases::MotorKind;
 
-// The gate whose status is asked, and which is current from then on.
+/// The gate whose status is asked, and which is current from then on.
 #[derive(Clone, Copy, PartialEq, Eq, Debug)]
 pub enum Whose {
+    /// Gate 1, by SET_1.
     First,
+    /// Gate 2, by SET_2.
     Second,
+    /// The lowest-numbered gate that calls, by SET_I.
     Calling,
+    /// The current gate, by GET_STATUS.
     Current,
 }
 
-// A command of the board, by what its packet is made of.
+/// A command of the board, by what its packet is made of.
 #[derive(Clone, Copy, PartialEq, Eq, Debug)]
 pub enum Command {
+    /// Gives a status word.
     Status(Whose),
+    /// Gives two words.
     Ask(Query),
+    /// Has no words.
     Now(Order),
+    /// Takes one word.
     Word(WordOrder),
+    /// Takes two words, the high one first.
     Long(LongOrder),
+    /// Takes one word, and is an UPDATE of each gate whose bit is 1 in it.
     MultiUpdate,
 }
 
@@ -180,7 +190,7 @@ impl From<Command> for u8 {
 }
 
 impl Command {
-    // How many words its packet takes.
+    /// How many words its packet takes.
     pub fn takes(self) -> u8
         ensures { result ≡ takes self }
     {
@@ -191,7 +201,7 @@ impl Command {
         }
     }
 
-    // How many words its packet gives.
+    /// How many words its packet gives.
     pub fn gives(self) -> u8
         ensures { result ≡ gives self }
     {

@@ -1,6 +1,6 @@
 ghost use Rattle.std.specs.Prelude.{◌≡◌, ◌+◌, ◌<◌, true};
 
-// A service slip: a gate's call that is being served. It can be let go only once it is spent by a close.
+/// A service slip: a gate's call that is being served. It can be let go only once it is spent by a close.
 pub struct Slip {
     pub(crate) gate: u8,
     pub(crate) spent: bool,
@@ -8,7 +8,7 @@ pub struct Slip {
 }
 
 impl Slip {
-    // The number of the slip's gate, 1 or 2.
+    /// The number of the slip's gate, 1 or 2.
     pub fn gate(&self) -> u8
         ensures { result ≡ self.now.gate + 1 }
     {

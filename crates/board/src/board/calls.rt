@@ -13,6 +13,7 @@ use gate::inputs::Inputs;
 use stage::Stage;
 
 impl<S: Stage + Drop> Board<S> {
+    /// A new board over a stage, as after a reset: both gates as new, gate 1 current, the port idle, 0, 0 shown for both, no slip out.
     #[tactic(auto, unfolding(crate::specs::Acts::Holds))]
     pub fn new(stage: S) -> Board<S>
         ensures { Came S.Stage [] result }
@@ -29,6 +30,9 @@ impl<S: Stage + Drop> Board<S> {
         Board { table, stage }
     }
 
+    /// Gives the board a command by its code; `docs/BOARD.md` lists the 37 of them. One without words runs, one that takes words opens its
+    /// packet, and one that gives words fixes them now. Refused, and nothing changes: `PacketOpen` while a packet is open; else `Unknown`
+    /// if no command has this code; else `NoCall` for SET_I if no gate calls.
     #[tactic(auto, unfolding(crate::specs::Acts::Holds))]
     pub fn command(&mut self, code: u8) -> Result<(), Refusal>
         ensures { Did S.Stage (act_command code) (heard_done result) self.old self.new }
@@ -36,6 +40,9 @@ impl<S: Stage + Drop> Board<S> {
         self.table.command(code)
     }
 
+    /// Writes a word of the packet that is open, the high word of two first; the last one runs the packet. Refused: `NotTaking` if the port
+    /// takes no words, and nothing changes; `OutOfRange` if the value is outside its range, which closes the packet and sets the command
+    /// error bit of the gate that the packet belongs to.
     #[tactic(auto, unfolding(crate::specs::Acts::Holds))]
     pub fn write(&mut self, word: u16) -> Result<(), Refusal>
         ensures { Did S.Stage (act_write word) (heard_done result) self.old self.new }
@@ -43,6 +50,8 @@ impl<S: Stage + Drop> Board<S> {
         self.table.write(word)
     }
 
+    /// Reads the next word that a command fixed, the high word of two first; the last one closes the packet. Refused: `NotGiving` if no word
+    /// waits, and nothing changes.
     #[tactic(auto, unfolding(crate::specs::Acts::Holds))]
     pub fn read(&mut self) -> Result<u16, Refusal>
         ensures { Did S.Stage act_read (heard_word result) self.old self.new }
@@ -50,7 +59,8 @@ impl<S: Stage + Drop> Board<S> {
         self.table.read()
     }
 
-    // `left` comes to gate 1 and `right` to gate 2; a struct of the two would only name them again.
+    /// One cycle of both gates, of what the encoders (in counts) and the switches bring: `left` to gate 1, `right` to gate 2. The phases
+    /// of both are shown. It has no refusal, and an open packet stays open.
     #[tactic(auto, unfolding(crate::specs::Acts::Holds))]
     pub fn cycle(&mut self, left: Inputs, right: Inputs)
         ensures { Did S.Stage (act_cycle left right) done self.old self.new }
@@ -60,6 +70,8 @@ impl<S: Stage + Drop> Board<S> {
         self.stage.show(2, two.0, two.1);
     }
 
+    /// The reset pin: closes any packet, makes gate 1 current, shows 0, 0 for both gates, and gives every field of both its reset value but
+    /// the slip marks. It has no refusal.
     #[tactic(auto, unfolding(crate::specs::Acts::Holds))]
     pub fn reset(&mut self)
         ensures { Did S.Stage act_reset done self.old self.new }
@@ -69,6 +81,8 @@ impl<S: Stage + Drop> Board<S> {
         self.stage.show(2, 0, 0);
     }
 
+    /// Hands out a service slip for the lowest-numbered gate that calls and has no slip out. Refused: `NoCall` if there is none, and nothing
+    /// changes.
     #[tactic(auto, unfolding(crate::specs::Acts::Holds))]
     pub fn take(&mut self) -> Result<Slip, Refusal>
         ensures did { Did S.Stage act_take (heard_slip result) self.old self.new }
@@ -78,6 +92,8 @@ impl<S: Stage + Drop> Board<S> {
         Ok(Slip { gate, spent: false })
     }
 
+    /// Takes a slip back, and clears the event bits of its gate whose places hold 0 in the word, as RST_STATUS does. Refused: `NoSlip` if that
+    /// gate has no slip out at this board; nothing changes, and the slip comes back unspent.
     #[tactic(auto, unfolding(crate::specs::Acts::Holds))]
     pub fn close(&mut self, mut slip: Slip, word: u16) -> Result<(), (Refusal, Slip)>
         ensures did { Did S.Stage (act_close slip.gate word) (heard_back result) self.old self.new }

@@ -8,12 +8,12 @@ use crate::board::Board;
 use crate::table::Table;
 use stage::Stage;
 
-// How far one gate is alike on two boards; both parts always hold.
+/// How far one gate is alike on two boards; both parts always hold.
 #[derive(Clone, Copy, PartialEq, Eq, Debug)]
 pub struct Comparison {
-    // whether its records are equal
+    /// Whether its records are equal in every field.
     pub same: bool,
-    // by how much its phases A and B, as the stages show them, differ
+    /// By how much its phases A and B, as the stages show them, differ.
     pub apart: (u32, u32),
 }
 
@@ -46,7 +46,8 @@ fn compared<S: Stage + Drop, R: Stage + Drop>(
     }
 }
 
-// Compares gate 1 or 2 on two boards, over any makes of stage. Its contract carries the isolation law.
+/// Compares gate 1 or 2 on two boards, over any makes of stage; `None` for another gate. Its contract carries the isolation law
+/// (`docs/ISOLATION.md`).
 pub fn compare<S: Stage + Drop, R: Stage + Drop>(
     left: &Board<S>,
     right: &Board<R>,

@@ -8,21 +8,21 @@ use gate::gate::Gate;
 use stage::Stage;
 
 impl<S: Stage + Drop> Board<S> {
-    // The pair that a gate shows; (0, 0) for a gate other than 1 or 2.
+    /// The phases A and B that the stage shows for a gate; (0, 0) for a gate other than 1 or 2.
     pub fn pair(&self, gate: u8) -> (i32, i32)
         ensures { result ≡ pair_of (S.Stage.pairs self.now.stage) gate }
     {
         self.stage.pair(gate)
     }
 
-    // The output stage, to be asked for what stands on its wires.
+    /// The output stage, to be asked for what is on its wires: a DAC's words, a PWM's lines, the stage below a wiring.
     pub fn stage(&self) -> &S
         ensures { result.now ≡ self.now.stage }
     {
         &self.stage
     }
 
-    // The record of a gate, as it stands; in its ranges, so that every question of a gate can be put to it.
+    /// The record of gate 1 or 2 as it stands, in its ranges, so that every question of a gate can be put to it; `None` for another gate.
     #[tactic(auto, unfolding(crate::specs::Acts::Holds))]
     pub fn record(&self, gate: u8) -> Option<Gate>
         ensures sound { IfSome result Sound }
