@@ -6,3 +6,4 @@ pub mod Owners
 pub mod Books
 pub mod Alike
 pub mod Slips
+pub mod Sequences

@@ -5,5 +5,6 @@ pub mod Own
 pub mod Acts
 pub mod Owners
 pub mod Runs
+pub mod Sequences
 pub mod Isolation
 pub mod Compared

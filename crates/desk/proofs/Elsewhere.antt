@@ -82,18 +82,18 @@ module _ {R : Type 0} (n : Ghosts R) (k w : ℕ) (l : k < 2) (x : Bool) (b c : B
     pub ends : {S : Type 0} (o : Ghosts S) (a : Board S o) (gate : ℕ) → is_gate gate ≡ true → k ≡ gate - 1 → (gate_of (state_of a.table) (gate - 1)).slip ≡ x → (r : Option (Result (Unit {0}) Refusal)) → Moved n w r b c mine last theirs left → Elsewhere o n gate w r a a b c
     ends o a gate g e mark None m = (
       λ _. mark ∙ none x (ap (λ p. held_for k p x) (sym m.0) ∙ h),
-      record { state = refl; pairs = refl },
-      record { state = ap (λ d. state_of d.table) m.3; pairs = ap (λ d. n.pairs d.stage) m.3 },
+      record { state = refl; stage = refl; pairs = refl },
+      record { state = ap (λ d. state_of d.table) m.3; stage = ap (λ d. d.stage) m.3; pairs = ap (λ d. n.pairs d.stage) m.3 },
     )
     ends o a gate g e mark (Some (Ok u)) m = (
       g,
       mark ∙ snd _ _ (kept m.0 m.1),
-      record { state = refl; pairs = refl },
+      record { state = refl; stage = refl; pairs = refl },
       subst (λ j. Did n (act_close j w) done b c) e (here m.0 done m.1 m.2),
     )
     ends o a gate g e mark (Some (Err f)) m = (
       g,
       mark ∙ snd _ _ (kept m.0 m.1),
-      record { state = refl; pairs = refl },
+      record { state = refl; stage = refl; pairs = refl },
       subst (λ j. Did n (act_close j w) (refused f) b c) e (here m.0 (refused f) m.1 m.2),
     )

@@ -7,7 +7,8 @@ use Rattle.board.specs.declared.refusal.Refusal.{Refusal}
 use Rattle.board.specs.declared.slip.Slip.{Slip}
 use Rattle.board.specs.Own.{Answer, slipped, refused, done}
 use Rattle.board.specs.Acts.{Act, act_close, state_of, gate_of, heard_done}
-use Rattle.board.specs.Runs.{Came, Did, Same}
+use Rattle.board.specs.Runs.{Did, Same}
+use Rattle.board.specs.Sequences.{Performed}
 
 -- a take's answer, from the number of the slip's gate
 abbrev pub heard_number : Result ℕ Refusal → Answer
@@ -25,7 +26,7 @@ closes one two = cond two (act_close 1 65535 ∷ []) [] ++ cond one (act_close 0
 
 -- every slip that was out is closed
 abbrev pub Ended : {S : Type 0} (m : Ghosts S) → Board S m → Board S m → Type 0
-Ended m b c = (h : List Act) → Came m h b → Came m (closes (state_of b.table).one.slip (state_of b.table).two.slip ++ h) c
+Ended m b c = Performed m (closes (state_of b.table).one.slip (state_of b.table).two.slip) b c
 
 -- the slip at one place is closed at a board whose own slip stands at another place: accepted, the other slip takes its place;
 -- refused, it is put back
