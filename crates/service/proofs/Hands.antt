@@ -1,27 +1,48 @@
--- What a slip that goes through a hand does to the board.
-use Rattle.std.proofs.Common.{◌≡◌, ℕ, true, false, List, ◌∷◌, Some, None, Option, is_some, ap, ◌∙◌}
+-- What the take of a slip does to the board, and its close after it.
+use Rattle.std.proofs.Common.{◌≡◌, ℕ, true, false, [], ◌∷◌, Some, None, Option, is_some, refl}
 use Rattle.stage.specs.declared.Stage.{Ghosts}
 use Rattle.board.specs.declared.board.Board.{Board}
+use Rattle.board.specs.declared.refusal.Refusal.{Refusal}
+use Rattle.board.specs.declared.refusal.Refusal.TheVariants.{NoCall}
 use Rattle.board.specs.declared.slip.Slip.{Slip}
-use Rattle.board.specs.Acts.{Act, act_take, act_close, after, lendable, state_of}
-use Rattle.board.specs.Runs.{Came}
+use Rattle.board.specs.Own.{Answer, done, refused, slipped, taken}
+use Rattle.board.specs.Acts.{State, act_take, act_close, answer, enters_if, lendable, says, state_of}
+use Rattle.board.specs.Runs.{Did, Same}
+use Rattle.board.specs.Sequences.{Performed}
 use Rattle.board.proofs.Slips.{taken_gate, taken_none}
-use Rattle.service.specs.Turns.{Picked, Put, once}
+use Rattle.board.proofs.Sequences.{performed_one, performed_then}
+use Rattle.service.specs.Turns.{Picked, Put, turn}
+
+-- a take is refused for want of a call alone
+no_call : (s : State) (e : Refusal) → refused e ≡ answer s act_take → e ≡ NoCall
+no_call s e h = go (lendable s) h
+  where
+    go : (o : Option ℕ) → refused e ≡ says s (enters_if o taken) → e ≡ NoCall
+    go (Some j) h = cc
+    go None h = cc
 
 module _ {S : Type 0} (m : Ghosts S) (b c : Board S m) where
+  -- a take that is refused found no gate that waits, and changed nothing
+  pub missed : (e : Refusal) → Did m act_take (refused e) b c → (lendable (state_of b.table) ≡ None) × Same m b c × Performed m (act_take ∷ []) b c
+  missed e d =
+      let call = no_call (state_of b.table) e d.says in
+      (taken_none (state_of b.table) e d.says, d.kept e refl (λ range. cc), performed_one m act_take (refused e) b c d)
+
   -- a slip that is taken and closed is that of the lowest-numbered gate that waits
-  pub turned : (d : Board S m) (w : ℕ) (o : Option Slip) → true ≡ is_some o → Picked m o b c → Put m w o c d
-      → (k : ℕ) × (Some k ≡ lendable (state_of b.table)) × (state_of d.table ≡ once (state_of b.table) k w)
-      × ((h : List Act) → Came m h b → Came m (act_close k w ∷ (act_take ∷ h)) d)
-  turned d w (Some s) e p q = (
-    s.gate,
-    taken_gate (state_of b.table) s.gate p.says,
-    q.state ∙ ap (λ z. after z (act_close s.gate w)) p.state,
-    λ h came. q.came (act_take ∷ h) (p.came h came),
+  pub had_turn : (d : Board S m) (k w : ℕ) (x : Answer) → Did m act_take (slipped k) b c → Did m (act_close k w) x c d
+      → (Some k ≡ lendable (state_of b.table)) × Performed m (turn k w []) b d
+  had_turn d k w x p q = (
+    taken_gate (state_of b.table) k p.says,
+    performed_then m (act_close k w) x (act_take ∷ []) b c d (performed_one m act_take (slipped k) b c p) q,
   )
+
+  -- the same of a slip that goes through a hand
+  pub turned : (d : Board S m) (w : ℕ) (o : Option Slip) → true ≡ is_some o → Picked m o b c → Put m w o c d
+      → (k : ℕ) × (Some k ≡ lendable (state_of b.table)) × Performed m (turn k w []) b d
+  turned d w (Some s) e p q = let had = had_turn d s.gate w done p q in (s.gate, had.0, had.1)
   turned d w None e p q = absurd q
 
-  -- an empty hand after a take: no gate waits
-  pub idle : (o : Option Slip) → false ≡ is_some o → Picked m o b c → (lendable (state_of b.table) ≡ None) × ((h : List Act) → Came m h b → Came m (act_take ∷ h) c)
-  idle None e p = (taken_none (state_of b.table) p.0 p.1.says, p.1.came)
+  -- an empty hand after a take
+  pub idle : (o : Option Slip) → false ≡ is_some o → Picked m o b c → (lendable (state_of b.table) ≡ None) × Same m b c × Performed m (act_take ∷ []) b c
+  idle None e p = missed p.0 p.1
   idle (Some s) e p = cc

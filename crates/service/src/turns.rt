@@ -21,7 +21,6 @@ fn pick<S: Stage + Drop>(board: &mut Board<S>, hand: &mut Option<Slip>) -> bool
     ensures held { result ≡ is_some hand.new }
     ensures out { InHand board.new hand.new }
     ensures picked { Picked S.Stage hand.new board.old board.new }
-    ensures shows { S.Stage.pairs board.new.stage ≡ S.Stage.pairs board.old.stage }
     ensures none { result ≡ false → lendable (state_of board.old.table) ≡ None }
 {
     let Ok(slip) = board.take() else {
@@ -44,6 +43,7 @@ fn put<S: Stage + Drop>(board: &mut Board<S>, hand: &mut Option<Slip>, word: u16
 
 // Serves two calls, one slip after the other, each with a word of its own.
 pub fn serve_in_turn<S: Stage + Drop>(board: &mut Board<S>, first: u16, second: u16) -> Served
+    ensures stage { board.new.stage ≡ board.old.stage }
     ensures shows { S.Stage.pairs board.new.stage ≡ S.Stage.pairs board.old.stage }
     ensures neither { result ≡ Served.Neither → lendable (state_of board.old.table) ≡ None }
     ensures served { InTurn S.Stage first second result board.old board.new }

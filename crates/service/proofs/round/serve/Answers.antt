@@ -1,11 +1,12 @@
-use Rattle.board.proofs.Slips.{closes, taken_gate, taken_none}
-use Rattle.board.specs.Acts.{act_take, state_of}
-use Rattle.service.proofs.round.serve.Goals as goal
-use Rattle.std.proofs.Common.{◌≡◌, true, ◌∷◌, Ok, Err, Result, is_ok, refl}
+use Rattle.std.proofs.Common.{◌≡◌, true, Ok, Err, Result, is_ok, refl}
 use Rattle.board.specs.declared.refusal.Refusal.{Refusal}
 use Rattle.board.specs.declared.slip.Slip.{Slip}
 use Rattle.board.specs.Own.{Answer, refused}
+use Rattle.board.specs.Acts.{state_of}
 use Rattle.board.specs.Runs.{heard_back}
+use Rattle.board.proofs.Slips.{closes}
+use Rattle.service.proofs.Hands.{missed, had_turn}
+use Rattle.service.proofs.round.serve.Goals as goal
 
 -- a close that is not refused is accepted
 accepted : (r : Result (Unit {0}) (Refusal × Slip)) (x : Answer) → heard_back r ≡ x → ((e : Refusal) → refused e ≡ x → ⊥) → is_ok r ≡ true
@@ -19,12 +20,10 @@ unwrap-requires g c =
     c.in-Ok.slip.known c.in-Ok.ensures.did.says c.take.ensures.did.state)
 
 pub returns-in_default : goal.returns-in_default
-returns-in_default g c = (taken_none (state_of c.args.board.now.table) c.in_default.field-0 c.in_default.ensures.did.says, c.take.ensures.did.came)
+returns-in_default g c = missed g.S.Stage c.args.board.now c.take.new.self c.in_default.field-0 c.in_default.ensures.did
 
 pub returns : goal.returns
-returns g c = (
-  c.in-Ok.slip.gate,
-  c.gate-gate.ensures,
-  taken_gate (state_of c.args.board.now.table) c.in-Ok.slip.gate c.in-Ok.ensures.did.says,
-  λ h came. c.close.ensures.did.came (act_take ∷ h) (c.take.ensures.did.came h came),
-)
+returns g c =
+    let k = c.in-Ok.slip.gate in
+    let had = had_turn g.S.Stage c.args.board.now c.take.new.self c.close.new.self k c.args.word _ c.in-Ok.ensures.did c.close.ensures.did in
+    (k, c.gate-gate.ensures, had.0, had.1)

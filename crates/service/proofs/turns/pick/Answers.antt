@@ -13,7 +13,6 @@ returns g c =
       held = refl;
       out = taken_out s (state_of c.take.new.self.table) k.gate k.known c.in-Ok.ensures.did.says c.take.ensures.did.state;
       picked = c.in-Ok.ensures.did;
-      shows = c.take.ensures.did.pairs;
       none = λ no. cc;
     }
 
@@ -27,6 +26,5 @@ returns-in_default g c =
       held = ap is_some e;
       out = subst held e tt;
       picked = subst picked e (c.in_default.field-0, c.in_default.ensures.did);
-      shows = c.take.ensures.did.pairs;
       none = λ no. taken_none s c.in_default.field-0 c.in_default.ensures.did.says;
     }
