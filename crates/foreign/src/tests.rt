@@ -3,6 +3,7 @@ use board::board::Board;
 use board::board::compare::compare;
 use board::refusal::Refusal;
 use gate::inputs::Inputs;
+use gate::queries::Query;
 use stage::Stage;
 use stage::dac::Dac;
 use stage::wiring::{Wire, Wiring};
@@ -50,4 +51,50 @@ fn compared_with_a_dac(rt: HostRuntime) -> Result<(), Fail> {
     assert!(rt; found.same);
     assert_eq!(rt; found.apart, (2, 35));
     Ok(())
+}
+
+// Gate 1 on its way from 0 to 1, at velocity 40,000 and acceleration 16,384, after two cycles in each of which its encoder counts 5.
+fn on_its_way<S: Stage + Drop>(stage: S) -> Result<Board<S>, Refusal> {
+    let mut board = Board::new(stage);
+    for (code, low) in [(0x10, 1), (0x11, 40_000), (0x12, 16_384)] {
+        board.command(code)?;
+        board.write(0)?;
+        board.write(low)?;
+    }
+    for (code, word) in [(0x62, 100), (0x2f, 0x80)] {
+        board.command(code)?;
+        board.write(word)?;
+    }
+    board.command(0x1a)?;
+    let counted = Inputs {
+        count: 5,
+        ..Inputs::STILL
+    };
+    board.cycle(counted, Inputs::STILL);
+    board.cycle(counted, Inputs::STILL);
+    Ok(board)
+}
+
+// Every question of a gate, put to a record that a board gave. A power out of range sets the command error bit, for which the gate calls.
+#[test]
+fn record_is_asked(rt: HostRuntime) -> Result<(), Fail> {
+    let mut board = on_its_way(Plate::<1>::new())?;
+    board.command(0x62)?;
+    assert_eq!(rt; board.write(0x8000), Err(Refusal::OutOfRange));
+    if let Some(gate) = board.record(1) {
+        assert_eq!(rt; gate.answer(Query::Position), 1);
+        assert_eq!(rt; gate.answer(Query::Velocity), 40_000);
+        assert_eq!(rt; gate.answer(Query::Acceleration), 16_384);
+        assert_eq!(rt; gate.answer(Query::TargetPosition), 0);
+        assert_eq!(rt; gate.answer(Query::TargetVelocity), 32_768);
+        assert_eq!(rt; gate.answer(Query::ActualPosition), 10);
+        assert_eq!(rt; gate.answer(Query::CycleTime), 2);
+        assert_eq!(rt; gate.status(0), 0x0480);
+        assert_eq!(rt; gate.phases(), (0, 100));
+        assert!(rt; gate.calls());
+        assert!(rt; !gate.at_rest());
+        Ok(())
+    } else {
+        Err("gate 1 is a gate".into())
+    }
 }
