@@ -1,91 +1,160 @@
--- Worked figures: what a gate, its phases, a stage and the port must give at known values.
-use Rattle.std.specs.Prelude.{◌≡◌, List, [], ◌∷◌, true, false, ℕ, eqb, ℤ, pos, neg_ℤ, nat_abs, ◌*ℤ◌}
-use Rattle.wave.specs.declared.phases.MotorKind.TheVariants.{TwoPhase}
-use Rattle.wave.specs.Phases.{phases}
-use Rattle.stage.specs.Cut.{cut}
+-- Worked figures: what a new board does and answers by the acts upon it, and what a PWM stage shows, at known values.
+use Rattle.std.specs.Prelude.{◌≡◌, ℕ, zero, suc, ◌/◌, ◌%◌, Bool, cond, List, [], ◌∷◌, ◌++◌, map, length, ℤ, pos, neg_ℤ}
+use Rattle.std.specs.Int.{w32}
+use Rattle.std.specs.declared.clone.Clone as clone
+use Rattle.std.proofs.Common.{of_z}
+use Rattle.stage.specs.declared.Stage.{Ghosts}
+use Rattle.stage.specs.declared.levels.Levels.{Levels}
+use Rattle.stage.specs.declared.pwm.Lines.{Lines}
+use Rattle.stage.specs.contracts.levels.LevelsStage.TheImpl as levels_stage
+use Rattle.stage.specs.contracts.pwm.Lines.{the_row}
+use Rattle.stage.specs.contracts.pwm.LinesForm.TheImpl as lines_form
+use Rattle.stage.specs.Pairs.{Pair, Pairs, shown}
 use Rattle.motion.specs.Course.{whole_steps}
-use Rattle.gate.specs.declared.gate.Gate.{Gate}
+use Rattle.gate.specs.Cycles.{shows}
+use Rattle.gate.specs.declared.events.Event.{Event}
+use Rattle.gate.specs.declared.events.Event.TheVariants.{MotionComplete, WrapAround}
+use Rattle.gate.specs.Events.{all}
 use Rattle.gate.specs.Inputs.{still}
-use Rattle.gate.specs.declared.profile.Profile.{Profile}
-use Rattle.gate.specs.declared.profile.ProfileMode.{ProfileMode}
-use Rattle.gate.specs.declared.profile.ProfileMode.TheVariants.{Trapezoidal, Velocity}
-use Rattle.gate.specs.declared.orders.LongOrder.{LongOrder}
-use Rattle.gate.specs.declared.orders.LongOrder.TheVariants as long
-use Rattle.gate.specs.Cycles.{cycled}
-use Rattle.gate.specs.Gates.{fresh}
-use Rattle.board.specs.declared.refusal.Refusal.TheVariants.{OutOfRange}
-use Rattle.board.specs.Own.{Answer, done, refused, reply, told_long}
+use Rattle.board.specs.Own.{Answer, done, refused, gave, fixed, slipped}
+use Rattle.board.specs.Refusals.{number}
+use Rattle.board.specs.Acts.{State, Act, act_command, act_write, act_cycle, after, answer}
+use Rattle.board.specs.Runs.{state_after}
 
--- a gate that stands at a position, or runs there at a velocity, with these active registers
-abbrev pub gate_at : ℤ → ℤ → Profile → Gate
-gate_at position v p =
-    record {
-      buffered = p;
-      active = p;
-      powers = (fresh false).powers;
-      motion = record { target = pos 65536 *ℤ position; velocity = v; halted = false; rested = eqb (nat_abs v) 0 };
-      actual = pos 0;
-      breakpoint = (fresh false).breakpoint;
-      events = (fresh false).events;
-      mask = 0;
-      detectors = (fresh false).detectors;
-      kind = TwoPhase;
-      slip = false;
-      clock = (fresh false).clock;
-    }
+-- the acts of a packet: of a command with no words, with one, and with the two of a number
+abbrev pub plain_packet : ℕ → List Act
+plain_packet code = act_command code ∷ []
 
-abbrev pub registers : ProfileMode → ℤ → ℕ → ℤ → Profile
-registers m destination velocity acceleration = record { destination = destination; velocity = velocity; acceleration = acceleration; mode = m }
+abbrev pub word_packet : ℕ → ℕ → List Act
+word_packet code w = act_command code ∷ act_write w ∷ []
 
--- the velocities of cycle after cycle
-abbrev pub Runs : Gate → List ℤ → Type 0
-Runs g [] = Unit {0}
-Runs g (v ∷ vs) = ((cycled still g).motion.velocity ≡ v) × Runs (cycled still g) vs
+abbrev pub number_packet : ℕ → ℤ → List Act
+number_packet code x = act_command code ∷ act_write (of_z w32 x / 65536) ∷ act_write (of_z w32 x % 65536) ∷ []
 
--- the gate after as many cycles as there are velocities
-abbrev pub after : Gate → List ℤ → Gate
-after g [] = g
-after g (v ∷ vs) = after (cycled still g) vs
+-- the packets of commands, by their mnemonics
+abbrev pub set_pos : ℤ → List Act
+set_pos x = number_packet 0x10 x
 
--- a row of the figures: a move from rest that ends with motion complete, a velocity that is kept, a move over the end of the range, the
--- phases of a position, what a step keeps of a number, and the answer to an order's two words
+abbrev pub set_vel : ℤ → List Act
+set_vel x = number_packet 0x11 x
+
+abbrev pub set_acc : ℤ → List Act
+set_acc x = number_packet 0x12 x
+
+abbrev pub set_actl_pos : ℤ → List Act
+set_actl_pos x = number_packet 0x4d x
+
+abbrev pub set_mtr_cmd : ℕ → List Act
+set_mtr_cmd power = word_packet 0x62 power
+
+abbrev pub set_prfl_trap : List Act
+set_prfl_trap = plain_packet 0x09
+
+abbrev pub set_prfl_vel : List Act
+set_prfl_vel = plain_packet 0x0a
+
+abbrev pub set_phase_2 : List Act
+set_phase_2 = plain_packet 0x74
+
+abbrev pub update : List Act
+update = plain_packet 0x1a
+
+-- a state after acts, the oldest first
+abbrev pub played : State → List Act → State
+played s [] = s
+played s (a ∷ acts) = played (after s a) acts
+
+-- a state a cycle later, with no count and no switch active
+abbrev pub cycle_later : State → State
+cycle_later s = after s (act_cycle still still)
+
+-- what an act is answered: it is accepted, refused by a number, or something is given
+pub data Outcome : Type 0 where
+  accepted : Outcome
+  refused_by : ℕ → Outcome
+  given : Outcome
+
+abbrev pub outcome : Answer → Outcome
+outcome done = accepted
+outcome (refused r) = refused_by (number r)
+outcome (gave w) = given
+outcome (fixed w ws) = given
+outcome (slipped k) = given
+
+-- what acts are answered, in their order
+abbrev pub outcomes : State → List Act → List Outcome
+outcomes s [] = []
+outcomes s (a ∷ acts) = outcome (answer s a) ∷ outcomes (after s a) acts
+
+-- the events whose bits are set
+abbrev pub set_events : List (Event × Bool) → List Event
+set_events [] = []
+set_events (e ∷ es) = cond e.1 (e.0 ∷ set_events es) (set_events es)
+
+-- what is seen of gate 1: V, the target position in microsteps, and the events whose bits are set
+abbrev pub View : Type 0
+View = ℤ × ℤ × List Event
+
+abbrev pub view_of : State → View
+view_of s = (s.one.motion.velocity, whole_steps s.one.motion.target, set_events (all s.one.events))
+
+-- what is seen in cycle after cycle
+abbrev pub course : ℕ → State → List View
+course zero s = []
+course (suc n) s = view_of (cycle_later s) ∷ course n (cycle_later s)
+
+-- what acts upon a new board are answered, and what is seen in the cycles that follow
+abbrev pub journey : List Act → ℕ → List Outcome × List View
+journey acts n = (outcomes (state_after []) acts, course n (played (state_after []) acts))
+
+-- how the lines of a phase are copied: the copy is the same
+abbrev pub copied_lines : clone.Ghosts Lines
+copied_lines = record { is_clone = λ x y. y ≡ x; is_infallible = λ x. Unit {0} }
+
+-- the make PWM as a stage
+abbrev pub pwm : Ghosts (Levels Lines)
+pwm = levels_stage.ghosts the_row lines_form.ghosts lines_form.dict copied_lines levels_stage.no_dict
+
+-- a row of the figures: from a new board acts, all of them accepted, and then cycle after cycle; the phases of a two-phase motor at a
+-- position by a power; what a PWM stage shows of a number, whatever it showed before; from a new board acts and what they are answered
 pub data Figure : Type 0 where
-  move : ℤ → ℕ → ℤ → List ℤ → Figure
-  cruise : ℕ → ℤ → List ℤ → Figure
-  over : ℕ → ℤ → ℤ → Figure
-  phase : ℤ → ℕ → ℤ × ℤ → Figure
-  keep : ℕ → ℤ → ℤ → Figure
-  value : LongOrder → ℕ → ℕ → Answer → Figure
+  move : List Act → List View → Figure
+  phase : ℤ → ℕ → Pair → Figure
+  pulse : ℤ → ℤ → Figure
+  answers : List Act → List Outcome → Figure
 
 abbrev pub Holds : Figure → Type 0
-Holds (move d v a vs) =
-    Runs (gate_at (pos 0) (pos 0) (registers Trapezoidal d v a)) vs × ((after (gate_at (pos 0) (pos 0) (registers Trapezoidal d v a)) vs).events.complete ≡ true)
-Holds (cruise v a vs) = Runs (gate_at (pos 0) (pos 0) (registers Velocity (pos 0) v a)) vs
-Holds (over v from to) =
-    (whole_steps (cycled still (gate_at from (pos v) (registers Velocity (pos 0) v (pos 1)))).motion.target ≡ to)
-    × ((cycled still (gate_at from (pos v) (registers Velocity (pos 0) v (pos 1)))).events.wrapped ≡ true)
-Holds (phase position power p) = phases TwoPhase power position ≡ p
-Holds (keep step x r) = cut step x ≡ r
-Holds (value o high low x) = reply 0 (fresh false) (told_long o high low) ≡ x
+Holds (move acts xs) = journey acts (length xs) ≡ (map (λ a. accepted) acts, xs)
+Holds (phase position power p) =
+    shows (cycle_later (played (state_after []) (set_phase_2 ++ set_mtr_cmd power ++ set_actl_pos position))).one ≡ p
+Holds (pulse x r) = (p : Pairs) → shown pwm.STEP p 1 x x ≡ record { one = (r, r); two = p.two }
+Holds (answers acts xs) = outcomes (state_after []) acts ≡ xs
 
 abbrev pub All : List Figure → Type 0
 All [] = Unit {0}
 All (f ∷ fs) = Holds f × All fs
 
+abbrev pub minus : ℕ → ℤ
+minus n = neg_ℤ (pos n)
+
 abbrev pub figures : List Figure
 figures =
-    move (pos 1) 40000 (pos 16384) (pos 16384 ∷ pos 32768 ∷ pos 16384 ∷ pos 0 ∷ [])
-    ∷ move (pos 1) 65536 (pos 65535) (pos 65535 ∷ pos 1 ∷ pos 0 ∷ [])
-    ∷ cruise 20000 (neg_ℤ (pos 16384)) (neg_ℤ (pos 16384) ∷ neg_ℤ (pos 20000) ∷ neg_ℤ (pos 20000) ∷ [])
-    ∷ over 65536 (pos 1073741823) (neg_ℤ (pos 1073741824))
-    ∷ phase (neg_ℤ (pos 1)) 32767 (neg_ℤ (pos 804), pos 32757)
+    move (set_pos (pos 1) ++ set_vel (pos 40000) ++ set_acc (pos 16384) ++ set_prfl_trap ++ update)
+    ((pos 16384, pos 0, []) ∷ (pos 32768, pos 0, []) ∷ (pos 16384, pos 1, []) ∷ (pos 0, pos 1, MotionComplete ∷ []) ∷ [])
+    ∷ move (set_pos (pos 1) ++ set_vel (pos 65536) ++ set_acc (pos 65535) ++ set_prfl_trap ++ update)
+    ((pos 65535, pos 0, []) ∷ (pos 1, pos 1, []) ∷ (pos 0, pos 1, MotionComplete ∷ []) ∷ [])
+    ∷ move (set_vel (pos 20000) ++ set_acc (minus 16384) ++ set_prfl_vel ++ update)
+    ((minus 16384, minus 1, []) ∷ (minus 20000, minus 1, []) ∷ (minus 20000, minus 1, []) ∷ [])
+    ∷ move (set_actl_pos (pos 1073741822) ++ set_vel (pos 65536) ++ set_acc (pos 65536) ++ set_prfl_vel ++ update)
+    ((pos 65536, pos 1073741823, []) ∷ (pos 65536, minus 1073741824, WrapAround ∷ []) ∷ [])
+    ∷ phase (minus 1) 32767 (minus 804, pos 32757)
     ∷ phase (pos 64) 16384 (pos 16384, pos 0)
-    ∷ phase (pos 129) 100 (neg_ℤ (pos 2), neg_ℤ (pos 99))
-    ∷ keep 128 (pos 127) (pos 0)
-    ∷ keep 128 (neg_ℤ (pos 127)) (pos 0)
-    ∷ keep 128 (neg_ℤ (pos 32767)) (neg_ℤ (pos 32640))
-    ∷ value long.Velocity 0x3fff 0xffff done
-    ∷ value long.Velocity 0x4000 0 (refused OutOfRange)
-    ∷ value long.Acceleration 0xffff 0xffff done
-    ∷ value long.Acceleration 0 0 (refused OutOfRange)
+    ∷ phase (pos 129) 100 (minus 2, minus 99)
+    ∷ pulse (pos 127) (pos 0)
+    ∷ pulse (minus 127) (pos 0)
+    ∷ pulse (minus 32767) (minus 32640)
+    ∷ answers (set_vel (pos 1073741823)) (accepted ∷ accepted ∷ accepted ∷ [])
+    ∷ answers (set_vel (pos 1073741824)) (accepted ∷ accepted ∷ refused_by 5 ∷ [])
+    ∷ answers (set_acc (minus 1)) (accepted ∷ accepted ∷ accepted ∷ [])
+    ∷ answers (set_acc (pos 0)) (accepted ∷ accepted ∷ refused_by 5 ∷ [])
     ∷ []
