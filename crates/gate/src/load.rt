@@ -17,7 +17,7 @@ pub enum Load {
     Acceleration(i32),
     /// Any mode.
     Mode(ProfileMode),
-    /// In 1/32,768 of the full current, from 0 to 32,767.
+    /// In 1/32,767 of the full wave, from 0 to 32,767.
     Power(u16),
 }
 
