@@ -8,7 +8,7 @@
 #   definitions   CRATE/MODULE:NAME, of crates/CRATE/specs/MODULE.antt, or CRATE/PATH.rt:NAME, of a trait's ghost member
 #   code          CRATE/PATH.rt:NAME, of crates/CRATE/src/PATH.rt
 #   promises      CRATE/PATH.rt:NAME, a function with a clause, CRATE/PATH.rt:NAME:LABEL, a clause of it by its name, or a definition
-#   edits         CRATE/LABEL, of crates/CRATE/must-fail/LABEL.edit
+#   edits         CRATE/LABEL, of crates/CRATE/must-fail/LABEL.edit or of tools/plants.txt
 #   tests         CRATE/PATH.rt:NAME, a test, or a path from the top, of a stored output or of a program that makes one
 cd "$(dirname "$0")/.." || exit 2
 page=docs/RULES.md
@@ -50,6 +50,10 @@ has_label() {
     sed -n "/fn $2[^a-zA-Z0-9_]/,/^ *[{;]*$/p" "crates/${1%%/*}/src/${1#*/}" 2> /dev/null | grep -Eq "ensures\*? $3 "
 }
 
+is_edit() {
+    test -e "crates/$1/must-fail/$2.edit" || grep -Fx -A 1 "label: $2" tools/plants.txt | grep -Fqx "crate: $1"
+}
+
 while read -r line column thing; do
     file=${thing%%:*}
     name=${thing#*:}
@@ -62,7 +66,7 @@ while read -r line column thing; do
                 *:*.*) in_specs "$file" "${name%%.*}" && in_specs "$file" "${name#*.}" || missing "$line" "definition $thing" ;;
                 *) in_specs "$file" "$name" || missing "$line" "definition $thing" ;;
             esac ;;
-        7) test -e "crates/${thing%%/*}/must-fail/${thing#*/}.edit" || missing "$line" "edit $thing" ;;
+        7) is_edit "${thing%%/*}" "${thing#*/}" || missing "$line" "edit $thing" ;;
         8)
             case $thing in
                 *.rt:*) in_code "$file" "$name" || missing "$line" "test $thing" ;;
