@@ -10,8 +10,13 @@ use stage::dac::Dac;
 use stage::pwm::Pwm;
 use std::{env, fs, io};
 
-const USAGE: &str =
-    "the arguments are: [--stages A,B] [FILE], where A and B are dac or pwm and FILE is a script, or - for standard input; --move DESTINATION VELOCITY ACCELERATION [POWER]; or --windings [KIND [POWER]]";
+// No error can hold it: an `anyhow::Error` keeps 120 bytes of its message.
+const USAGE: &str = "usage: console [--stages A,B] [FILE]
+       console --move DESTINATION VELOCITY ACCELERATION [POWER]
+       console --windings [KIND [POWER]]
+       console --help
+A and B are dac or pwm, and KIND is two-phase or three-phase. FILE is a script.
+With - or nothing in its place it is standard input; where that is blank, lots are worked.";
 
 const MAKES: Makes = Makes {
     a: Make::Dac,
@@ -93,24 +98,36 @@ fn from_file(rt: &HostRuntime, makes: Makes, path: &str) -> anyhow::Result<()> {
     on_stages(rt, makes, Script(text.as_str()))
 }
 
+fn show_usage(rt: &HostRuntime) -> anyhow::Result<()> {
+    println!(rt; "{USAGE}")?;
+    Ok(())
+}
+
+fn not_taken(rt: &HostRuntime) -> anyhow::Result<()> {
+    let _told = eprintln!(rt; "{USAGE}");
+    Err(anyhow!("these arguments are not taken"))
+}
+
 fn with_makes(rt: &HostRuntime, makes: Makes, words: &[String]) -> anyhow::Result<()> {
     match words {
         [] => from_input(rt, makes),
         [file] => match file.as_str() {
             "-" => from_input(rt, makes),
-            option if option.starts_with("--") => Err(anyhow!("{USAGE}")),
+            option if option.starts_with("--") => not_taken(rt),
             path => from_file(rt, makes, path),
         },
-        _ => Err(anyhow!("{USAGE}")),
+        _ => not_taken(rt),
     }
 }
 
 // Two boards, by the arguments behind their stages.
 fn with_stages(rt: &HostRuntime, words: &[String]) -> anyhow::Result<()> {
     let [names, rest @ ..] = words else {
-        return Err(anyhow!("{USAGE}"));
+        return not_taken(rt);
     };
-    let makes = names.as_str().parse().map_err(|_| anyhow!("{USAGE}"))?;
+    let Ok(makes) = names.as_str().parse() else {
+        return not_taken(rt);
+    };
     with_makes(rt, makes, rest)
 }
 
@@ -122,6 +139,7 @@ fn with_words(rt: &HostRuntime, words: &[String]) -> anyhow::Result<()> {
         "--stages" => with_stages(rt, rest),
         "--move" => show_move(rt, rest),
         "--windings" => show_windings(rt, rest),
+        "--help" if rest.is_empty() => show_usage(rt),
         _ => with_makes(rt, MAKES, words),
     }
 }
