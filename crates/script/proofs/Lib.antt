@@ -1,1 +1,4 @@
 pub mod Sends
+pub mod NumberLemmas
+pub mod Unread
+pub mod MnemonicLemmas

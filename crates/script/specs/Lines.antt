@@ -1,20 +1,27 @@
 -- How lines of a script are written, word by word.
-use Rattle.std.specs.Prelude.{◌≡◌, ℕ, ◌<◌, Bool, true, false, ◌⊎◌, List, [], ◌∷◌, length, ℤ, pos, Some, None, Ok, Err, Option, Result, codes, ◌≢◌, slice_index}
+use Rattle.std.specs.Prelude.{◌≡◌, ℕ, zero, suc, ◌^◌, ◌<◌, Bool, true, false, ◌⊎◌, List, [], ◌∷◌, length, ℤ, pos, Some, None, Ok, Err, Option, Result, codes, ◌≢◌, slice_index, All, FitsSigned}
+use Rattle.std.specs.Int.{w16}
 use Rattle.gate.specs.declared.inputs.Inputs.{Inputs}
 use Rattle.board.specs.declared.command.Command.{Command}
 use Rattle.board.specs.Commands.{code_table}
 use Rattle.desk.specs.declared.side.Side.{Side}
 use Rattle.desk.specs.declared.side.Side.TheVariants.{A, B}
-use Rattle.script.specs.Mnemonics.{mnemonic}
+use Rattle.script.specs.Mnemonics.{mnemonic, Names}
 use Rattle.script.specs.Numbers.{Number, Bits}
 use Rattle.std.specs.Borrow.{Bor}
 use Rattle.gate.specs.Inputs.{still}
 use Rattle.board.specs.Commands.{takes}
 use Rattle.script.specs.declared.fault.Expected.{Expected}
+use Rattle.script.specs.declared.fault.Expected.TheVariants as expected
 use Rattle.script.specs.declared.line.Line.{Line}
 use Rattle.script.specs.declared.line.Line.TheVariants as line
 use Rattle.script.specs.declared.line.Packet.{Packet}
 use Rattle.script.specs.declared.line.Packet.TheVariants as packet
+
+-- a value of which P holds, or none, where it holds of none
+abbrev pub Finds : {T : Type 0} → (T → Type 0) → Option T → Type 0
+Finds P (Some x) = P x
+Finds {T = T} P None = (x : T) → P x → ⊥
 
 -- a text is a number of 16 bits, or of 32, signed or not
 abbrev pub IsWord : List ℕ → ℕ → Type 0
@@ -23,9 +30,9 @@ IsWord text w = (z : ℤ) × Number text (Some z) × Bits 32768 z (Some w)
 abbrev pub IsLong : List ℕ → ℕ → Type 0
 IsLong text n = (z : ℤ) × Number text (Some z) × Bits 2147483648 z (Some n)
 
--- a command's name or its code
+-- a command's name, or its code
 abbrev pub IsCode : List ℕ → ℕ → Type 0
-IsCode text n = ((c : Command) × (text ≡ mnemonic c) × (code_table n ≡ Some c)) ⊎ Number text (Some (pos n))
+IsCode text n = ((c : Command) × (text ≡ mnemonic c) × (code_table n ≡ Some c)) ⊎ ((n < 2 ^ 8) × Number text (Some (pos n)))
 
 abbrev pub side_name : Side → List ℕ
 side_name A = codes "a"
@@ -43,31 +50,24 @@ Letters text = (text ≡ codes "-") ⊎ ((i : ℕ) → i < length text → (slic
 -- a count and such letters
 pub record IsInputs (count letters : List ℕ) (i : Inputs) : Type 0 where
   pub letters_are : Letters letters
+  pub count_fits : FitsSigned w16 i.count
   pub count_is : Number count (Some i.count)
   pub positive_is : Holds letters 112 i.positive
   pub negative_is : Holds letters 110 i.negative
   pub home_is : Holds letters 104 i.home
 
 -- a gate, written as its number and in no other way
-abbrev pub gate_name : ℕ → List ℕ → Type 0
-gate_name g text = ((g ≡ 1) × (text ≡ codes "1")) ⊎ ((g ≡ 2) × (text ≡ codes "2"))
+abbrev pub IsGate : List ℕ → ℕ → Type 0
+IsGate text g = ((g ≡ 1) × (text ≡ codes "1")) ⊎ ((g ≡ 2) × (text ≡ codes "2"))
 
--- what a text is read as, or none, where it is none
-abbrev pub NamesSide : List ℕ → Option Side → Type 0
-NamesSide text (Some s) = text ≡ side_name s
-NamesSide text None = (s : Side) → text ≢ side_name s
+-- the number that a text writes, where a type takes it: `gives` tells what the type gives for a number
+abbrev pub Fitted : {N E : Type 0} → (ℤ → Result N E → Type 0) → List ℕ → Option N → Type 0
+Fitted gives text (Some n) = (z : ℤ) × Number text (Some z) × gives z (Ok n)
+Fitted {E = E} gives text None = (z : ℤ) → Number text (Some z) → (e : E) × gives z (Err e)
 
-abbrev pub NamesGate : List ℕ → Option ℕ → Type 0
-NamesGate text (Some g) = gate_name g text
-NamesGate text None = (g : ℕ) → gate_name g text → ⊥
-
-abbrev pub Words : List ℕ → Option ℕ → Type 0
-Words text (Some w) = IsWord text w
-Words text None = (w : ℕ) → IsWord text w → ⊥
-
-abbrev pub Longs : List ℕ → Option ℕ → Type 0
-Longs text (Some n) = IsLong text n
-Longs text None = (n : ℕ) → IsLong text n → ⊥
+-- there is one word, of which this holds
+abbrev pub One : (List ℕ → Type 0) → List (Bor (List ℕ)) → Type 0
+One P words = (t : Bor (List ℕ)) × (words ≡ t ∷ []) × P t.now
 
 -- what the words behind `cycle` bring to the gates
 abbrev pub CycleWords : List (Bor (List ℕ)) → Inputs → Inputs → Type 0
@@ -75,43 +75,65 @@ CycleWords words i j =
     ((words ≡ []) × (i ≡ still) × (j ≡ still))
     ⊎ ((c : Bor (List ℕ)) × (s : Bor (List ℕ)) × (d : Bor (List ℕ)) × (t : Bor (List ℕ)) × (words ≡ c ∷ (s ∷ (d ∷ (t ∷ [])))) × IsInputs c.now s.now i × IsInputs d.now t.now j)
 
-abbrev pub IsCycle : List (Bor (List ℕ)) → Line → Type 0
-IsCycle words l = (i : Inputs) × (j : Inputs) × (l ≡ line.Cycle i j) × CycleWords words i j
-
--- and behind `close`
-abbrev pub IsClose : List (Bor (List ℕ)) → Line → Type 0
-IsClose words l = (g : Bor (List ℕ)) × (w : Bor (List ℕ)) × (n : ℕ) × (x : ℕ) × (words ≡ g ∷ (w ∷ [])) × gate_name n g.now × IsWord w.now x × (l ≡ line.Close n x)
-
--- behind `command`, and behind `run`
-abbrev pub IsCommand : List (Bor (List ℕ)) → Line → Type 0
-IsCommand words l = (n : ℕ) × (t : Bor (List ℕ)) × (words ≡ t ∷ []) × IsCode t.now n × (l ≡ line.Command n)
-
-abbrev pub IsRun : List (Bor (List ℕ)) → Line → Type 0
-IsRun words l = (n : ℕ) × (t : Bor (List ℕ)) × (words ≡ t ∷ []) × Number t.now (Some (pos n)) × (l ≡ line.Run n)
+-- the gate and the word behind `close`
+abbrev pub CloseWords : List (Bor (List ℕ)) → ℕ → ℕ → Type 0
+CloseWords words n x = (g : Bor (List ℕ)) × (w : Bor (List ℕ)) × (words ≡ g ∷ (w ∷ [])) × IsGate g.now n × IsWord w.now x
 
 -- a command's packet, with the value that the words write
 abbrev pub IsPacket : Command → List (Bor (List ℕ)) → Packet → Type 0
 IsPacket c words (packet.Plain d) = (d ≡ c) × (takes c ≡ 0) × (words ≡ [])
-IsPacket c words (packet.Word d w) = (d ≡ c) × (takes c ≡ 1) × ((t : Bor (List ℕ)) × (words ≡ t ∷ []) × IsWord t.now w)
-IsPacket c words (packet.Long d n) = (d ≡ c) × (takes c ≡ 2) × ((t : Bor (List ℕ)) × (words ≡ t ∷ []) × IsLong t.now n)
+IsPacket c words (packet.Word d w) = (d ≡ c) × (takes c ≡ 1) × One (λ t. IsWord t w) words
+IsPacket c words (packet.Long d n) = (d ≡ c) × (takes c ≡ 2) × One (λ t. IsLong t n) words
 
 -- a line that words write, the first of them and those behind it
 abbrev pub Writes : List ℕ → List (Bor (List ℕ)) → Line → Type 0
 Writes verb words line.Nothing = ⊥
-Writes verb words (line.Board side) = (verb ≡ codes "board") × ((t : Bor (List ℕ)) × (words ≡ t ∷ []) × (t.now ≡ side_name side))
-Writes verb words (line.Command n) = (verb ≡ codes "command") × ((t : Bor (List ℕ)) × (words ≡ t ∷ []) × IsCode t.now n)
-Writes verb words (line.Write w) = (verb ≡ codes "write") × ((t : Bor (List ℕ)) × (words ≡ t ∷ []) × IsWord t.now w)
+Writes verb words (line.Board side) = (verb ≡ codes "board") × One (λ t. t ≡ side_name side) words
+Writes verb words (line.Command n) = (verb ≡ codes "command") × One (λ t. IsCode t n) words
+Writes verb words (line.Write w) = (verb ≡ codes "write") × One (λ t. IsWord t w) words
 Writes verb words line.Read = (verb ≡ codes "read") × (words ≡ [])
 Writes verb words (line.Cycle i j) = (verb ≡ codes "cycle") × CycleWords words i j
-Writes verb words (line.Run n) = (verb ≡ codes "run") × ((t : Bor (List ℕ)) × (words ≡ t ∷ []) × Number t.now (Some (pos n)))
+Writes verb words (line.Run n) = (verb ≡ codes "run") × One (λ t. (n < 2 ^ 32) × Number t (Some (pos n))) words
 Writes verb words line.Reset = (verb ≡ codes "reset") × (words ≡ [])
 Writes verb words line.Take = (verb ≡ codes "take") × (words ≡ [])
-Writes verb words (line.Close g w) = (verb ≡ codes "close") × IsClose words (line.Close g w)
+Writes verb words (line.Close g w) = (verb ≡ codes "close") × CloseWords words g w
 Writes verb words line.Pairs = (verb ≡ codes "pairs") × (words ≡ [])
 Writes verb words (line.Packet p) = (c : Command) × (verb ≡ mnemonic c) × IsPacket c words p
 
--- what the words of a line are read as, if they can be
+-- what is expected behind a mnemonic, by how many words its packet takes
+abbrev pub value_expected : ℕ → Expected
+value_expected zero = expected.NoValue
+value_expected (suc zero) = expected.WordValue
+value_expected (suc (suc n)) = expected.LongValue
+
+-- a command's packet with the value that the words write, or what was expected, where they write none
+abbrev pub ReadsPacket : Command → List (Bor (List ℕ)) → Result Packet Expected → Type 0
+ReadsPacket c words (Ok p) = IsPacket c words p
+ReadsPacket c words (Err e) = (e ≡ value_expected (takes c)) × Finds (IsPacket c words) None
+
+-- the verbs that are no mnemonics
+abbrev pub verbs : List (List ℕ)
+verbs =
+    codes "board" ∷ (codes "command" ∷ (codes "write" ∷ (codes "read" ∷ (codes "cycle" ∷ (codes "run" ∷ (codes "reset" ∷ (codes "take"
+    ∷ (codes "close" ∷ (codes "pairs" ∷ [])))))))))
+
+-- what is expected of a line, by its verb
+abbrev pub Expects : List ℕ → Expected → Type 0
+Expects verb expected.Line = Names verb None × All (λ v. verb ≢ v) verbs
+Expects verb expected.Board = verb ≡ codes "board"
+Expects verb expected.Command = verb ≡ codes "command"
+Expects verb expected.Word = verb ≡ codes "write"
+Expects verb expected.Alone =
+    (verb ≡ codes "read") ⊎ ((verb ≡ codes "reset") ⊎ ((verb ≡ codes "take") ⊎ (verb ≡ codes "pairs")))
+Expects verb expected.Cycle = verb ≡ codes "cycle"
+Expects verb expected.Run = verb ≡ codes "run"
+Expects verb expected.Close = verb ≡ codes "close"
+Expects verb expected.NoValue = (c : Command) × (verb ≡ mnemonic c) × (takes c ≡ 0)
+Expects verb expected.WordValue = (c : Command) × (verb ≡ mnemonic c) × (takes c ≡ 1)
+Expects verb expected.LongValue = (c : Command) × (verb ≡ mnemonic c) × (takes c ≡ 2)
+
+-- what the words of a line are read as: the line that they write, or what was expected, where they write none
 abbrev pub Says : List (Bor (List ℕ)) → Result Line Expected → Type 0
 Says [] r = r ≡ Ok line.Nothing
 Says (verb ∷ words) (Ok l) = Writes verb.now words l
-Says (verb ∷ words) (Err e) = Unit {0}
+Says (verb ∷ words) (Err e) = Finds (Writes verb.now words) None × Expects verb.now e

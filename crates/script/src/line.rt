@@ -1,6 +1,6 @@
-ghost use Rattle.std.specs.Prelude.{◌≡◌, ◌<◌, IfOk, IfSome, Some, Ok, [], ◌∷◌, ℤ};
-ghost use Rattle.script.specs.Numbers.{Number};
-ghost use Rattle.script.specs.Lines.{Words, Longs, IsCode, Holds, IsClose, IsCycle, IsInputs, IsCommand, IsRun, IsPacket, Says, NamesSide, NamesGate};
+ghost use Rattle.std.specs.Prelude.{◌≡◌, ◌<◌, [], ◌∷◌, codes};
+ghost use Rattle.std.specs.Option.{SomeIff};
+ghost use Rattle.script.specs.Lines.{Finds, Fitted, Holds, IsCode, IsGate, IsInputs, IsLong, IsWord, One, ReadsPacket, Says, Writes, side_name};
 
 use crate::fault::Expected;
 use crate::mnemonic::named;
@@ -35,7 +35,7 @@ pub enum Packet {
 }
 
 fn side(text: &str) -> Option<Side>
-    ensures { NamesSide text.now result }
+    ensures { Finds (λ side. text.now ≡ side_name side) result }
 {
     match text {
         "a" => Some(Side::A),
@@ -45,7 +45,7 @@ fn side(text: &str) -> Option<Side>
 }
 
 fn code(text: &str) -> Option<u8>
-    ensures { IfSome result (IsCode text.now) }
+    ensures { Finds (IsCode text.now) result }
 {
     match named(text) {
         Some(command) => Some(u8::from(command)),
@@ -55,13 +55,13 @@ fn code(text: &str) -> Option<u8>
 
 // The bits of a number of one word, and below of two: one function for both would name a constant and a type at each call.
 fn word(text: &str) -> Option<u16>
-    ensures { Words text.now result }
+    ensures { Finds (IsWord text.now) result }
 {
     u16::try_from(bits_of::<WORD>(number(text)?)?).ok()
 }
 
 fn long(text: &str) -> Option<u32>
-    ensures { Longs text.now result }
+    ensures { Finds (IsLong text.now) result }
 {
     u32::try_from(bits_of::<LONG>(number(text)?)?).ok()
 }
@@ -70,13 +70,13 @@ fn long(text: &str) -> Option<u32>
 fn fitting<N: TryFrom<i64>>(text: &str) -> Option<N>
 where
     N::Error: Drop,
-    ensures { IfSome result (λ n. (z : ℤ) × Number text.now (Some z) × N.try_from_gives z (Ok n)) }
+    ensures { Fitted N.try_from_gives text.now result }
 {
     N::try_from(number(text)?).ok()
 }
 
 fn gate(text: &str) -> Option<u8>
-    ensures { NamesGate text.now result }
+    ensures { Finds (IsGate text.now) result }
 {
     match text {
         "1" => Some(1),
@@ -95,7 +95,7 @@ fn holds(text: &str, letter: char) -> bool
 }
 
 fn inputs(number: &str, letters: &str) -> Option<Inputs>
-    ensures { IfSome result (IsInputs number.now letters.now) }
+    ensures { Finds (IsInputs number.now letters.now) result }
 {
     let count = fitting(number)?;
     if letters != "-"
@@ -115,7 +115,7 @@ fn inputs(number: &str, letters: &str) -> Option<Inputs>
 
 // The only one of the words.
 fn only<'a>(words: &[&'a str]) -> Option<&'a str>
-    ensures { IfSome result (λ word. words.now ≡ word ∷ []) }
+    ensures { Finds (λ word. words.now ≡ word ∷ []) result }
 {
     match words {
         [word] => Some(*word),
@@ -123,14 +123,39 @@ fn only<'a>(words: &[&'a str]) -> Option<&'a str>
     }
 }
 
+// The number of one word that is the only one of the words, and of two words.
+fn only_word(words: &[&str]) -> Option<u16>
+    ensures { Finds (λ n. One (λ text. IsWord text n) words.now) result }
+{
+    word(only(words)?)
+}
+
+fn only_long(words: &[&str]) -> Option<u32>
+    ensures { Finds (λ n. One (λ text. IsLong text n) words.now) result }
+{
+    long(only(words)?)
+}
+
 fn alone(words: &[&str], line: Line) -> Option<Line>
-    ensures { IfSome result (λ l. (l ≡ line) × (words.now ≡ [])) }
+    ensures { SomeIff result (words.now ≡ []) line }
 {
     words.is_empty().then_some(line)
 }
 
+fn board(words: &[&str]) -> Option<Line>
+    ensures { Finds (Writes (codes "board") words.now) result }
+{
+    Some(Line::Board(side(only(words)?)?))
+}
+
+fn write(words: &[&str]) -> Option<Line>
+    ensures { Finds (Writes (codes "write") words.now) result }
+{
+    Some(Line::Write(only_word(words)?))
+}
+
 fn cycle(words: &[&str]) -> Option<Line>
-    ensures { IfSome result (IsCycle words.now) }
+    ensures { Finds (Writes (codes "cycle") words.now) result }
 {
     match words {
         [] => Some(Line::Cycle(Inputs::STILL, Inputs::STILL)),
@@ -140,19 +165,19 @@ fn cycle(words: &[&str]) -> Option<Line>
 }
 
 fn command(words: &[&str]) -> Option<Line>
-    ensures { IfSome result (IsCommand words.now) }
+    ensures { Finds (Writes (codes "command") words.now) result }
 {
     Some(Line::Command(code(only(words)?)?))
 }
 
 fn run(words: &[&str]) -> Option<Line>
-    ensures { IfSome result (IsRun words.now) }
+    ensures { Finds (Writes (codes "run") words.now) result }
 {
     Some(Line::Run(fitting(only(words)?)?))
 }
 
 fn close(words: &[&str]) -> Option<Line>
-    ensures { IfSome result (IsClose words.now) }
+    ensures { Finds (Writes (codes "close") words.now) result }
 {
     match words {
         [g, w] => Some(Line::Close(gate(*g)?, word(*w)?)),
@@ -163,21 +188,25 @@ fn close(words: &[&str]) -> Option<Line>
 impl Packet {
     // A command's packet, with the value that the words write.
     fn read(command: Command, words: &[&str]) -> Result<Packet, Expected>
-        ensures { IfOk result (IsPacket command words.now) }
+        ensures { ReadsPacket command words.now result }
     {
         match command.takes() {
             0 => words
                 .is_empty()
                 .then_some(Packet::Plain(command))
                 .ok_or(Expected::NoValue),
-            1 => only(words)
-                .and_then(word)
-                .map(|value| Packet::Word(command, value))
-                .ok_or(Expected::WordValue),
-            _ => only(words)
-                .and_then(long)
-                .map(|value| Packet::Long(command, value))
-                .ok_or(Expected::LongValue),
+            1 => {
+                let Some(value) = only_word(words) else {
+                    return Err(Expected::WordValue);
+                };
+                Ok(Packet::Word(command, value))
+            }
+            _ => {
+                let Some(value) = only_long(words) else {
+                    return Err(Expected::LongValue);
+                };
+                Ok(Packet::Long(command, value))
+            }
         }
     }
 }
@@ -193,15 +222,9 @@ impl<'a> TryFrom<&'a [&'a str]> for Line {
             return Ok(Line::Nothing);
         };
         match *verb {
-            "board" => only(rest)
-                .and_then(side)
-                .map(Line::Board)
-                .ok_or(Expected::Board),
+            "board" => board(rest).ok_or(Expected::Board),
             "command" => command(rest).ok_or(Expected::Command),
-            "write" => only(rest)
-                .and_then(word)
-                .map(Line::Write)
-                .ok_or(Expected::Word),
+            "write" => write(rest).ok_or(Expected::Word),
             "read" => alone(rest, Line::Read).ok_or(Expected::Alone),
             "cycle" => cycle(rest).ok_or(Expected::Cycle),
             "run" => run(rest).ok_or(Expected::Run),
@@ -209,7 +232,10 @@ impl<'a> TryFrom<&'a [&'a str]> for Line {
             "take" => alone(rest, Line::Take).ok_or(Expected::Alone),
             "close" => close(rest).ok_or(Expected::Close),
             "pairs" => alone(rest, Line::Pairs).ok_or(Expected::Alone),
-            name => Packet::read(named(name).ok_or(Expected::Line)?, rest).map(Line::Packet),
+            name => {
+                let command = named(name).ok_or(Expected::Line)?;
+                Ok(Line::Packet(Packet::read(command, rest)?))
+            }
         }
     }
 }
