@@ -16,7 +16,7 @@ accepted (Err p) x h kept = absurd (kept p.0 h)
 pub unwrap-requires : goal.unwrap-requires
 unwrap-requires g c =
     accepted c.close.result _ c.close.ensures.did.says
-    (λ e. closes (state_of c.args.board.now.table) (state_of c.take.new.self.table) c.in-Ok.slip.gate c.args.word e
+    (λ e. closes (state_of c.args.board.now.table) (state_of c.take.new.self.table) c.in-Ok.slip.gate _ e
     c.in-Ok.slip.known c.in-Ok.ensures.did.says c.take.ensures.did.state)
 
 pub returns-in_default : goal.returns-in_default
