@@ -1,5 +1,5 @@
 -- Which acts leave the slip marks alone.
-use Rattle.std.proofs.Common.{◌≡◌, ℕ, Bool, true, false, cond, eqb, Option, refl, ap, ◌∙◌}
+use Rattle.std.proofs.Common.{◌≡◌, ℕ, ◌<◌, Bool, true, false, cond, eqb, Option, refl, ap, ◌∙◌, lit<}
 use Rattle.gate.specs.declared.gate.Gate.{Gate}
 use Rattle.gate.specs.declared.orders.Order.{Order}
 use Rattle.gate.specs.declared.orders.Order.TheVariants.{Mode, Stop, Update, Auto, Break, Motor}
@@ -13,9 +13,11 @@ use Rattle.gate.specs.Orders.{ran, word_run, word_fits, long_run, long_fits}
 use Rattle.gate.proofs.Steps.{met_keeps}
 use Rattle.board.specs.declared.slip.Slip.{Slip}
 use Rattle.board.specs.Own.{replay, joined}
-use Rattle.board.specs.Commands.{decoded}
-use Rattle.board.specs.Acts.{State, Act, act_command, act_write, act_read, act_cycle, act_reset, act_take, act_close, entries, move, after}
-use Rattle.board.proofs.Moves.{Ordinary, by_command, by_write, by_read}
+use Rattle.board.specs.Ports.{port_step}
+use Rattle.board.specs.declared.port.Incoming.TheVariants as incoming
+use Rattle.board.specs.Acts.{State, Act, act_command, act_write, act_read, act_cycle, act_reset, act_take, act_close, entries, move, after, gate_of}
+use Rattle.board.proofs.Moves.{Ordinary, by_step}
+use Rattle.board.proofs.Lists.{after_gate}
 use Rattle.desk.specs.Keeps.{state_keeps}
 
 order_slip : (o : Order) (g : Gate) → (ran o g).slip ≡ g.slip
@@ -64,9 +66,9 @@ plain act_take = false
 plain (act_close k w) = false
 
 act_slip : (k : ℕ) (s : State) (a : Act) (g : Gate) → plain a ≡ true → (replay (entries k (move s a)) g).slip ≡ g.slip
-act_slip k s (act_command b) g h = by_command (leaves g) k s s.port (decoded b)
-act_slip k s (act_write w) g h = by_write (leaves g) k s s.port w
-act_slip k s act_read g h = by_read (leaves g) k s.port
+act_slip k s (act_command b) g h = by_step (leaves g) k s (port_step s.port (incoming.Command b))
+act_slip k s (act_write w) g h = by_step (leaves g) k s (port_step s.port (incoming.Write w))
+act_slip k s act_read g h = by_step (leaves g) k s (port_step s.port incoming.Read)
 act_slip k s (act_cycle i j) g h =
     let inputs = cond (eqb k 0) i j in
     met_keeps (λ x. x.slip) inputs.home (tripped inputs (encoded inputs.count (clocked g))) refl refl
@@ -74,9 +76,13 @@ act_slip k s act_reset g h = refl
 act_slip k s act_take g h = cc
 act_slip k s (act_close j w) g h = cc
 
+-- so they leave each gate's mark
+act_mark : (k : ℕ) (s : State) (a : Act) → k < 2 → plain a ≡ true → (gate_of (after s a) k).slip ≡ (gate_of s k).slip
+act_mark k s a l h = ap (λ x. x.slip) (after_gate s a k l) ∙ act_slip k s a (gate_of s k) h
+
 -- the slips that are kept stay the right ones
 pub still_keeps : (s z : State) (a : Act) (first second : Option Slip) → plain a ≡ true → z ≡ after s a → state_keeps s first second ≡ true → state_keeps z first second ≡ true
 still_keeps s z a first second p e h =
-    let one : z.one.slip ≡ s.one.slip = ap (λ x. x.one.slip) e ∙ act_slip 0 s a s.one p in
-    let two : z.two.slip ≡ s.two.slip = ap (λ x. x.two.slip) e ∙ act_slip 1 s a s.two p in
+    let one : z.one.slip ≡ s.one.slip = ap (λ x. x.one.slip) e ∙ act_mark 0 s a (lit< tt) p in
+    let two : z.two.slip ≡ s.two.slip = ap (λ x. x.two.slip) e ∙ act_mark 1 s a (lit< tt) p in
     rw (one, two) h
