@@ -6,4 +6,4 @@ use Rattle.desk.proofs.desk.Desk.command.Goals as goal
 pub invariant_of-self : goal.invariant_of-self
 invariant_of-self g c =
     let d = c.args.self.now in
-    record { kept = still_keeps (state_of d.board.table) _ (act_command c.args.code) d.first d.second refl c.command.ensures.state d.kept }
+    record { kept = still_keeps (state_of d.board.table) _ (act_command _) d.first d.second refl c.command.ensures.state d.kept }

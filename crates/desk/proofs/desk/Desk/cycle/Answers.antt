@@ -6,4 +6,4 @@ use Rattle.desk.proofs.desk.Desk.cycle.Goals as goal
 pub invariant_of-self : goal.invariant_of-self
 invariant_of-self g c =
     let d = c.args.self.now in
-    record { kept = still_keeps (state_of d.board.table) _ (act_cycle c.args.left c.args.right) d.first d.second refl c.cycle.ensures.state d.kept }
+    record { kept = still_keeps (state_of d.board.table) _ (act_cycle _ _) d.first d.second refl c.cycle.ensures.state d.kept }
