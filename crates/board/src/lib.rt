@@ -1,4 +1,4 @@
-// The board: two gates, one port, one output stage.
+// The board: two gates, one port, one output stage. Its rules: docs/BOARD.md.
 #![tactic(auto)]
 
 mod acts;

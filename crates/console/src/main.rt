@@ -1,4 +1,4 @@
-// The console, a program: the task that its arguments ask for, and one line on standard error where it fails.
+// The console, a program: the task that its arguments ask for, and one line on standard error where it fails. Its page: docs/CONSOLE.md.
 #![tactic(auto)]
 
 use host::console;

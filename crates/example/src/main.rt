@@ -1,4 +1,4 @@
-// Plays the example script of the script language's page, as the console plays it.
+// Plays the example script of the script language's page, as the console plays it. Its page: docs/SCRIPT.md.
 #![tactic(auto)]
 
 use host::console;

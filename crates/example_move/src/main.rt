@@ -1,4 +1,4 @@
-// Shows the move of the console page, as the console shows it.
+// Shows the move of the console page, as the console shows it. Its page: docs/CONSOLE.md.
 #![tactic(auto)]
 
 use host::console;

@@ -1,4 +1,4 @@
-// Runs a trial of windings, as the console runs it.
+// Runs a trial of windings, as the console runs it. Its page: docs/WINDINGS.md.
 #![tactic(auto)]
 
 use host::console;

@@ -1,4 +1,4 @@
-// One gate: its record, and everything that a command or a cycle does to it.
+// One gate: its record, and everything that a command or a cycle does to it. Its rules: docs/GATE.md.
 #![tactic(auto)]
 
 pub mod breakpoint;

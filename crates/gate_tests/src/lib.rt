@@ -1,4 +1,4 @@
-// Runs of a gate, held to values that tools/gate.py worked out.
+// Runs of a gate, held to values that tools/gate.py worked out. Its rules: docs/GATE.md.
 #![tactic(auto)]
 
 #[cfg(test)]

@@ -1,4 +1,4 @@
-// The console: its arguments, and the tasks that they ask for.
+// The console: its arguments, and the tasks that they ask for. Its page: docs/CONSOLE.md.
 #![tactic(auto)]
 
 pub mod console;

@@ -1,4 +1,4 @@
-// The arithmetic of one gate's move: numbers in, numbers out.
+// The arithmetic of one gate's move: numbers in, numbers out. Its rules: docs/GATE.md.
 #![tactic(auto)]
 
 pub mod course;

@@ -1,4 +1,4 @@
-// The script language of the console: its lines, what they send to a board, and what they answer.
+// The script language of the console: its lines, what they send to a board, and what they answer. Its rules: docs/SCRIPT.md.
 #![tactic(auto)]
 
 pub mod boards;

@@ -1,4 +1,4 @@
-// Lines of scripts, good and damaged.
+// Lines of scripts, good and damaged. Their rules: docs/SCRIPT.md.
 #![tactic(auto)]
 
 #[cfg(test)]

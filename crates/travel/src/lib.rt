@@ -1,4 +1,4 @@
-// A journey: one gate sent from rest at 0 to a destination, cycle by cycle.
+// A journey: one gate sent from rest at 0 to a destination, cycle by cycle. Its rules: docs/CONSOLE.md.
 #![tactic(auto)]
 
 pub mod journey;

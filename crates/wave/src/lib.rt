@@ -1,4 +1,4 @@
-// Microstepping: the sine table, the wave made from it, and the phases of a motor at a position.
+// Microstepping: the sine table, the wave made from it, and the phases of a motor at a position. Its rules: docs/PHASES.md.
 #![tactic(auto)]
 
 pub mod phases;
