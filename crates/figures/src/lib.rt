@@ -1,4 +1,4 @@
-// Worked figures, proved together.
+// Worked figures, proved together. They stand in docs/PROOFS.md.
 #![tactic(auto)]
 
 ghost use Rattle.std.specs.Prelude.{◌≡◌, length};

@@ -1,4 +1,4 @@
-// Plays a list of acts, coded as bytes, against two new boards, and writes what they answer as bytes.
+// Plays a list of acts, coded as bytes, against two new boards, and writes what they answer as bytes. Its format: docs/REPLAY.md.
 #![tactic(auto)]
 
 ghost use Rattle.std.specs.Prelude.{◌≡◌, true, false};

@@ -1,4 +1,4 @@
-// Rounds of service at a board.
+// Rounds of service at a board. What they promise: docs/PROOFS.md.
 #![tactic(auto)]
 
 pub mod round;

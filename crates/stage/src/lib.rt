@@ -1,4 +1,4 @@
-// Output stages: what stands between a gate's phase numbers and the wires of its motor.
+// Output stages: what stands between a gate's phase numbers and the wires of its motor. Their rules: docs/STAGES.md.
 #![tactic(auto)]
 
 ghost use Rattle.std.specs.Prelude.{◌≡◌, ℕ, ◌≤◌};
