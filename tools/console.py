@@ -2,7 +2,7 @@
 """The console's lots and scripts, worked out from docs/BOARD.md, docs/SCRIPT.md and docs/CONSOLE.md, over the gate of gate.py.
 
     python3 tools/console.py lots > crates/console/stdout
-    python3 tools/console.py crates/example/data/example.txt > crates/example/stdout
+    python3 tools/console.py crates/console_script/data/example.txt > crates/console_script/stdout
 """
 import sys
 

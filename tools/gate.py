@@ -1,7 +1,7 @@
 #!/usr/bin/env python3
 """One gate, worked out from docs/GATE.md and docs/PHASES.md, with the sine of the C library.
 
-    python3 tools/gate.py move 1000 1310720 65536 16384 > crates/example_move/stdout
+    python3 tools/gate.py move 1000 1310720 65536 16384 > crates/console_move/stdout
     python3 tools/gate.py tests        the values that crates/gate_tests expects
 """
 import math

@@ -4,7 +4,7 @@ are reported and the status. Lines are told apart here by docs/SCRIPT.md alone.
 
     python3 tools/scripts.py [SCRIPTS [SEED]]      after one ./run, which builds the console
     python3 tools/scripts.py FILE                  prints what is to be answered to one script
-    python3 tools/scripts.py crates/example_faults/data/faults.txt > crates/example_faults/stdout
+    python3 tools/scripts.py crates/console_faults/data/faults.txt > crates/console_faults/stdout
 """
 import os
 import random

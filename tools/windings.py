@@ -1,7 +1,7 @@
 #!/usr/bin/env python3
 """What `./run --windings KIND POWER` must print, worked out from docs/ with the sine of the C library.
 
-    python3 tools/windings.py three-phase 32767 > crates/example_windings/stdout
+    python3 tools/windings.py three-phase 32767 > crates/console_windings/stdout
 """
 import math
 import sys

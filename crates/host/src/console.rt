@@ -8,6 +8,7 @@ use script::boards::Boards;
 use stage::Stage;
 use stage::dac::Dac;
 use stage::pwm::Pwm;
+use std::process::ExitCode;
 use std::{env, fs, io};
 
 // No error can hold it: an `anyhow::Error` keeps 120 bytes of its message.
@@ -144,8 +145,19 @@ fn with_words(rt: &HostRuntime, words: &[String]) -> anyhow::Result<()> {
     }
 }
 
-// The console's task, by its arguments.
-pub fn run(rt: &HostRuntime) -> anyhow::Result<()> {
+// The task that the arguments ask for.
+fn run(rt: &HostRuntime) -> anyhow::Result<()> {
     let words: Vec<String> = env::args(rt)?.skip(1).collect(rt.alloc())?;
     with_words(rt, words.as_slice())
+}
+
+/// The whole console: the task that its arguments ask for, and one line on standard error and status 1 where it fails.
+pub fn main(rt: &HostRuntime) -> ExitCode {
+    match run(rt) {
+        Ok(()) => ExitCode::SUCCESS,
+        Err(error) => {
+            let _told = eprintln!(rt; "console: {error}");
+            ExitCode::FAILURE
+        }
+    }
 }
