@@ -173,6 +173,12 @@ class Board:
     def shown(self):
         return "pairs " + " ".join(f"{a} {b}" for a, b in self.pairs)
 
+    def wires(self):
+        """What the make has on its wires: words of a DAC, a sign and a magnitude for each phase of a PWM."""
+        phases = [x for pair in self.pairs for x in pair]
+        codes = [str(x + 32768) for x in phases] if self.step == 1 else [f"{'-' if x < 0 else '+'}{abs(x) // 128}" for x in phases]
+        return "wires " + " ".join(codes)
+
 
 def number(text):
     return int(text[2:], 16) if text.startswith("0x") else int(text)
@@ -196,6 +202,8 @@ def played(board, words):
         for _ in range(turns):
             board.cycle(inputs)
         return board.shown()
+    elif verb == "wires":
+        return board.wires()
     elif verb == "reset":
         board.reset()
     elif verb == "take":

@@ -17,7 +17,7 @@ from console import CODES, NO_WORDS, STEPS, TAKES, Board, Refused, played
 CONSOLE = os.path.join(os.path.dirname(os.path.dirname(os.path.abspath(__file__))), "crates", "console", "out", "console")
 EDGES = {1: (-32768, -1, 0, 1, 3, 4, 127, 32767, 32768, 65535), 2: (-(2**31), -(2**30) - 1, -(2**30), -1, 0, 1, 40000, 65536, 2**30 - 1, 2**30, 2**32 - 1)}
 BAD = ("", "x", "0x", "-0x1", "0x+1", "+-1", "--1", "1.0", "1e3", "4294967296", "-2147483649", "99999999999999999999", "０", "a", "b", "-", "pn", "#", "SET_pos")
-VERBS = ("board", "command", "write", "read", "cycle", "run", "reset", "take", "close", "pairs", *CODES)
+VERBS = ("board", "command", "write", "read", "cycle", "run", "reset", "take", "close", "pairs", "wires", *CODES)
 
 
 def number(text):
@@ -53,7 +53,7 @@ def readable(words):
         "cycle": lambda: not rest or len(rest) == 4 and inputs(rest),
         "run": lambda: len(rest) == 1 and within(rest[0], 0, 2**32 - 1),
         "close": lambda: len(rest) == 2 and rest[0] in ("1", "2") and word(rest[1]),
-    }.get(verb, lambda: not rest and (verb in CODES or verb in ("read", "reset", "take", "pairs")))()
+    }.get(verb, lambda: not rest and (verb in CODES or verb in ("read", "reset", "take", "pairs", "wires")))()
 
 
 def written(rng, value):
@@ -66,7 +66,7 @@ def value(rng, width):
 
 def good(rng):
     """A line as it should be."""
-    verb = rng.choice(VERBS if rng.random() < 0.6 else ("cycle", "run", "take", "close", "command", "write", "read"))
+    verb = rng.choice(VERBS if rng.random() < 0.6 else ("cycle", "run", "take", "close", "command", "write", "read", "wires"))
     if verb in TAKES:
         return [verb, value(rng, TAKES[verb][1])]
     if verb == "command":

@@ -5,7 +5,7 @@ use crate::tasks::{show_move, show_windings};
 use anyhow::{anyhow, ensure};
 use desk::desk::Desk;
 use script::boards::Boards;
-use stage::Stage;
+use stage::codes::Wires;
 use stage::dac::Dac;
 use stage::pwm::Pwm;
 use std::process::ExitCode;
@@ -26,7 +26,7 @@ const MAKES: Makes = Makes {
 
 // What is done on two new boards, whatever the makes of their stages.
 trait Task {
-    fn work<S: Stage + Drop, R: Stage + Drop>(
+    fn work<S: Wires + Drop, R: Wires + Drop>(
         self,
         rt: &HostRuntime,
         a: S,
@@ -39,7 +39,7 @@ trait Task {
 struct Script<'a>(&'a str);
 
 impl Task for Script<'_> {
-    fn work<S: Stage + Drop, R: Stage + Drop>(
+    fn work<S: Wires + Drop, R: Wires + Drop>(
         self,
         rt: &HostRuntime,
         a: S,
@@ -58,7 +58,7 @@ impl Task for Script<'_> {
 struct Lots(Makes);
 
 impl Task for Lots {
-    fn work<S: Stage + Drop, R: Stage + Drop>(
+    fn work<S: Wires + Drop, R: Wires + Drop>(
         self,
         rt: &HostRuntime,
         a: S,

@@ -1,7 +1,7 @@
 use script::boards::Boards;
 use script::line::Line;
 use script::reply::Answer;
-use stage::Stage;
+use stage::codes::Wires;
 
 // A line of a script without its comment.
 fn uncommented(line: &str) -> &str {
@@ -10,7 +10,7 @@ fn uncommented(line: &str) -> &str {
 }
 
 // Plays one line, and prints its answer; false if it cannot be read.
-fn play_line<S: Stage + Drop, R: Stage + Drop>(
+fn play_line<S: Wires + Drop, R: Wires + Drop>(
     rt: &HostRuntime,
     boards: &mut Boards<S, R>,
     number: usize,
@@ -32,7 +32,7 @@ fn play_line<S: Stage + Drop, R: Stage + Drop>(
 }
 
 // Plays a script from its first line to its last, and answers how many lines could not be read.
-pub fn play_script<S: Stage + Drop, R: Stage + Drop>(
+pub fn play_script<S: Wires + Drop, R: Wires + Drop>(
     rt: &HostRuntime,
     boards: &mut Boards<S, R>,
     script: &str,

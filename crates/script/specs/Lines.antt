@@ -98,6 +98,7 @@ Writes verb words line.Reset = (verb ≡ codes "reset") × (words ≡ [])
 Writes verb words line.Take = (verb ≡ codes "take") × (words ≡ [])
 Writes verb words (line.Close g w) = (verb ≡ codes "close") × CloseWords words g w
 Writes verb words line.Pairs = (verb ≡ codes "pairs") × (words ≡ [])
+Writes verb words line.Wires = (verb ≡ codes "wires") × (words ≡ [])
 Writes verb words (line.Packet p) = (c : Command) × (verb ≡ mnemonic c) × IsPacket c words p
 
 -- what is expected behind a mnemonic, by how many words its packet takes
@@ -115,7 +116,7 @@ ReadsPacket c words (Err e) = (e ≡ value_expected (takes c)) × Finds (IsPacke
 abbrev pub verbs : List (List ℕ)
 verbs =
     codes "board" ∷ (codes "command" ∷ (codes "write" ∷ (codes "read" ∷ (codes "cycle" ∷ (codes "run" ∷ (codes "reset" ∷ (codes "take"
-    ∷ (codes "close" ∷ (codes "pairs" ∷ [])))))))))
+    ∷ (codes "close" ∷ (codes "pairs" ∷ (codes "wires" ∷ []))))))))))
 
 -- what is expected of a line, by its verb
 abbrev pub Expects : List ℕ → Expected → Type 0
@@ -124,7 +125,7 @@ Expects verb expected.Board = verb ≡ codes "board"
 Expects verb expected.Command = verb ≡ codes "command"
 Expects verb expected.Word = verb ≡ codes "write"
 Expects verb expected.Alone =
-    (verb ≡ codes "read") ⊎ ((verb ≡ codes "reset") ⊎ ((verb ≡ codes "take") ⊎ (verb ≡ codes "pairs")))
+    (verb ≡ codes "read") ⊎ ((verb ≡ codes "reset") ⊎ ((verb ≡ codes "take") ⊎ ((verb ≡ codes "pairs") ⊎ (verb ≡ codes "wires"))))
 Expects verb expected.Cycle = verb ≡ codes "cycle"
 Expects verb expected.Run = verb ≡ codes "run"
 Expects verb expected.Close = verb ≡ codes "close"

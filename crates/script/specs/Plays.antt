@@ -4,6 +4,8 @@ use Rattle.std.specs.Int.{w32}
 use Rattle.std.proofs.Common.{to_z}
 use Rattle.stage.specs.declared.Stage.{Ghosts}
 use Rattle.stage.specs.Pairs.{pair_of}
+use Rattle.stage.specs.Codes.{StandsFor}
+use Rattle.stage.specs.declared.codes.Codes.{Codes}
 use Rattle.gate.specs.declared.queries.Query.{Query}
 use Rattle.gate.specs.declared.queries.Query.TheVariants.{Position, Velocity, Acceleration, TargetPosition, TargetVelocity, ActualPosition, CycleTime}
 use Rattle.board.specs.declared.board.Board.{Board}
@@ -21,7 +23,7 @@ use Rattle.script.specs.declared.line.Line.TheVariants as line
 use Rattle.script.specs.declared.line.Packet.{Packet}
 use Rattle.script.specs.declared.line.Packet.TheVariants as packet
 use Rattle.script.specs.declared.reply.Reply.{Reply}
-use Rattle.script.specs.declared.reply.Reply.TheVariants.{Done, Word, Slip, NoSlip, Pairs, Value}
+use Rattle.script.specs.declared.reply.Reply.TheVariants.{Done, Word, Slip, NoSlip, Pairs, Wires, Value}
 use Rattle.script.specs.Packets.{Sent, Fetched}
 
 -- the answer to an act that a reply or a refusal stands for; `fixed` is the answer to none, so the other replies stand for none
@@ -31,6 +33,7 @@ said (Ok (Word w)) = gave w
 said (Ok (Slip n)) = cond (n == 0) (fixed 0 []) (slipped (n - 1))
 said (Ok NoSlip) = fixed 0 []
 said (Ok (Pairs p q)) = fixed 0 []
+said (Ok (Wires c)) = fixed 0 []
 said (Ok (Value z)) = fixed 0 []
 said (Err e) = refused e
 
@@ -65,6 +68,10 @@ module _ {S : Type 0} (m : Ghosts S) where
   abbrev pub Shows : Board S m → Reply → Type 0
   Shows b r = r ≡ Pairs (pair_of (m.pairs b.stage) 1) (pair_of (m.pairs b.stage) 2)
 
+  -- what the stage has on its wires, by `look`; it stands for the pairs
+  abbrev pub ShowsWires : (S → Codes) → Board S m → Reply → Type 0
+  ShowsWires look b r = (r ≡ Wires (look b.stage)) × StandsFor (m.pairs b.stage) (look b.stage)
+
   -- the packet of a command that gives k words, by the code n of the command; they stand for a value
   abbrev pub Gives : ℕ → (List ℕ → ℤ) → ℕ → Result Reply Refusal → Board S m → Board S m → Type 0
   Gives k value n (Ok r) b d = (words : List ℕ) × (r ≡ Value (value words)) × Fetched m k n (Ok words) b d
@@ -85,16 +92,18 @@ module _ {S : Type 0} (m : Ghosts S) where
   Whole (packet.Word c w) n r b d = (code_table n ≡ Some c) × (IfOk r (λ x. x ≡ Done) × Sent m (act_command n ∷ (act_write w ∷ [])) r b d)
   Whole (packet.Long c v) n r b d = (code_table n ≡ Some c) × (IfOk r (λ x. x ≡ Done) × Sent m (act_command n ∷ (act_write (v / 65536) ∷ (act_write (v % 65536) ∷ []))) r b d)
 
-  abbrev pub Played : Line → Result (Option Reply) Refusal → Board S m → Board S m → Type 0
-  Played line.Nothing x b d = AsksNothing x × Same m b d
-  Played (line.Board side) x b d = AsksNothing x × Same m b d
-  Played (line.Command n) x b d = Answers (λ r. Did m (act_command n) (said r) b d) x
-  Played (line.Write w) x b d = Answers (λ r. Did m (act_write w) (said r) b d) x
-  Played line.Read x b d = Answers (λ r. Did m act_read (said r) b d) x
-  Played (line.Cycle i j) x b d = Replies (λ r. Did m (act_cycle i j) done b d × Shows d r) x
-  Played (line.Run n) x b d = Replies (λ r. Ran m n b d × Shows d r) x
-  Played line.Reset x b d = Answers (λ r. Did m act_reset (said r) b d) x
-  Played line.Take x b d = Answers (λ r. Did m act_take (said r) b d) x
-  Played (line.Close g w) x b d = Replies (λ r. (y : Bool) × (r ≡ cond y Done NoSlip) × Closed m g w y b d) x
-  Played line.Pairs x b d = Replies (λ r. Same m b d × Shows d r) x
-  Played (line.Packet p) x b d = Answers (λ r. (n : ℕ) × Whole p n r b d) x
+  -- what a line does and is answered; `look` tells what a stage has on its wires
+  abbrev pub Played : (S → Codes) → Line → Result (Option Reply) Refusal → Board S m → Board S m → Type 0
+  Played look line.Nothing x b d = AsksNothing x × Same m b d
+  Played look (line.Board side) x b d = AsksNothing x × Same m b d
+  Played look (line.Command n) x b d = Answers (λ r. Did m (act_command n) (said r) b d) x
+  Played look (line.Write w) x b d = Answers (λ r. Did m (act_write w) (said r) b d) x
+  Played look line.Read x b d = Answers (λ r. Did m act_read (said r) b d) x
+  Played look (line.Cycle i j) x b d = Replies (λ r. Did m (act_cycle i j) done b d × Shows d r) x
+  Played look (line.Run n) x b d = Replies (λ r. Ran m n b d × Shows d r) x
+  Played look line.Reset x b d = Answers (λ r. Did m act_reset (said r) b d) x
+  Played look line.Take x b d = Answers (λ r. Did m act_take (said r) b d) x
+  Played look (line.Close g w) x b d = Replies (λ r. (y : Bool) × (r ≡ cond y Done NoSlip) × Closed m g w y b d) x
+  Played look line.Pairs x b d = Replies (λ r. Same m b d × Shows d r) x
+  Played look line.Wires x b d = Replies (λ r. Same m b d × ShowsWires look d r) x
+  Played look (line.Packet p) x b d = Answers (λ r. (n : ℕ) × Whole p n r b d) x

@@ -1,6 +1,7 @@
 -- Two boards, and the one that a line goes to.
 use Rattle.std.specs.Prelude.{◌≡◌, None, Ok, Option, Result}
 use Rattle.stage.specs.declared.Stage.{Ghosts}
+use Rattle.stage.specs.declared.codes.Codes.{Codes}
 use Rattle.board.specs.declared.refusal.Refusal.{Refusal}
 use Rattle.desk.specs.declared.side.Side.{Side}
 use Rattle.desk.specs.declared.side.Side.TheVariants.{A, B}
@@ -10,11 +11,12 @@ use Rattle.script.specs.declared.line.Line.TheVariants as line
 use Rattle.script.specs.declared.reply.Reply.{Reply}
 use Rattle.script.specs.Plays.{Played}
 
-module _ {S R : Type 0} (m : Ghosts S) (n : Ghosts R) where
+-- two makes of stage, and what a stage of each has on its wires
+module _ {S R : Type 0} (m : Ghosts S) (n : Ghosts R) (look : S → Codes) (see : R → Codes) where
   -- the line is played on one board, and the other stays
   abbrev pub PlayedAt : Side → Line → Result (Option Reply) Refusal → Boards S R m n → Boards S R m n → Type 0
-  PlayedAt A l r x y = Played m l r x.a.board y.a.board × (y.b ≡ x.b) × (y.current ≡ x.current)
-  PlayedAt B l r x y = Played n l r x.b.board y.b.board × (y.a ≡ x.a) × (y.current ≡ x.current)
+  PlayedAt A l r x y = Played m look l r x.a.board y.a.board × (y.b ≡ x.b) × (y.current ≡ x.current)
+  PlayedAt B l r x y = Played n see l r x.b.board y.b.board × (y.a ≡ x.a) × (y.current ≡ x.current)
 
   -- a line that names a board only turns to it
   abbrev pub Turned : Side → Result (Option Reply) Refusal → Boards S R m n → Boards S R m n → Type 0

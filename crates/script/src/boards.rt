@@ -12,6 +12,7 @@ use board::refusal::Refusal;
 use desk::desk::Desk;
 use desk::side::Side;
 use stage::Stage;
+use stage::codes::Wires;
 
 // The two boards of the console, and the one that lines go to.
 pub struct Boards<S: Stage + Drop, R: Stage + Drop> {
@@ -34,9 +35,20 @@ impl<S: Stage + Drop, R: Stage + Drop> Boards<S, R> {
         }
     }
 
+    // Closes every slip that is still kept, at its board, with a word that clears nothing.
+    pub fn finish(self) -> (Board<S>, Board<R>)
+        ensures a { Ended S.Stage self.a.board result.0 }
+        ensures b { Ended R.Stage self.b.board result.1 }
+    {
+        let Boards { a, b, current: _ } = self;
+        (a.finish(), b.finish())
+    }
+}
+
+impl<S: Wires + Drop, R: Wires + Drop> Boards<S, R> {
     // Plays a line on the current board.
     fn play_here(&mut self, line: Line) -> Result<Option<Reply>, Refusal>
-        ensures { PlayedAt S.Stage R.Stage self.old.current line result self.old self.new }
+        ensures { PlayedAt S.Stage R.Stage S.codes R.codes self.old.current line result self.old self.new }
     {
         match self.current {
             Side::A => play(&mut self.a, line),
@@ -46,7 +58,7 @@ impl<S: Stage + Drop, R: Stage + Drop> Boards<S, R> {
 
     // Plays a line on the board that it goes to.
     pub fn play(&mut self, line: Line) -> Result<Option<Reply>, Refusal>
-        ensures { Went S.Stage R.Stage line result self.old self.new }
+        ensures { Went S.Stage R.Stage S.codes R.codes line result self.old self.new }
     {
         match line {
             Line::Board(side) => {
@@ -55,14 +67,5 @@ impl<S: Stage + Drop, R: Stage + Drop> Boards<S, R> {
             }
             _ => self.play_here(line),
         }
-    }
-
-    // Closes every slip that is still kept, at its board, with a word that clears nothing.
-    pub fn finish(self) -> (Board<S>, Board<R>)
-        ensures a { Ended S.Stage self.a.board result.0 }
-        ensures b { Ended R.Stage self.b.board result.1 }
-    {
-        let Boards { a, b, current: _ } = self;
-        (a.finish(), b.finish())
     }
 }

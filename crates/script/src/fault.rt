@@ -3,7 +3,7 @@ use thiserror::Error;
 // What a line of a script should have been.
 #[derive(Clone, Copy, Debug, PartialEq, Eq, Error)]
 pub enum Expected {
-    #[error("board, command, write, read, cycle, run, reset, take, close, pairs or a mnemonic")]
+    #[error("board, command, write, read, cycle, run, reset, take, close, pairs, wires or a mnemonic")]
     Line,
     #[error("board a or board b")]
     Board,
@@ -11,7 +11,7 @@ pub enum Expected {
     Command,
     #[error("write and a number from -32768 to 65535")]
     Word,
-    #[error("nothing behind read, reset, take or pairs")]
+    #[error("nothing behind read, reset, take, pairs or wires")]
     Alone,
     #[error("cycle alone, or with a count from -32768 to 32767 and the letters p n h, or -, for each gate")]
     Cycle,

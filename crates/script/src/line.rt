@@ -23,6 +23,7 @@ pub enum Line {
     Take,
     Close(u8, u16),
     Pairs,
+    Wires,
     Packet(Packet),
 }
 
@@ -232,6 +233,7 @@ impl<'a> TryFrom<&'a [&'a str]> for Line {
             "take" => alone(rest, Line::Take).ok_or(Expected::Alone),
             "close" => close(rest).ok_or(Expected::Close),
             "pairs" => alone(rest, Line::Pairs).ok_or(Expected::Alone),
+            "wires" => alone(rest, Line::Wires).ok_or(Expected::Alone),
             name => {
                 let command = named(name).ok_or(Expected::Line)?;
                 Ok(Line::Packet(Packet::read(command, rest)?))

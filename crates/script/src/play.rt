@@ -10,6 +10,7 @@ use board::refusal::Refusal;
 use desk::desk::Desk;
 use gate::queries::Query;
 use stage::Stage;
+use stage::codes::Wires;
 
 // The number that 32 bits stand for in an answer: a velocity register and the clock are unsigned.
 fn signed(query: Query, bits: u32) -> i64
@@ -71,8 +72,8 @@ pub fn pairs<S: Stage + Drop>(desk: &Desk<S>) -> Reply
 }
 
 // Plays a line on a board; no reply comes to a line that asks nothing of it.
-pub fn play<S: Stage + Drop>(desk: &mut Desk<S>, line: Line) -> Result<Option<Reply>, Refusal>
-    ensures { Played S.Stage line result desk.old.board desk.new.board }
+pub fn play<S: Wires + Drop>(desk: &mut Desk<S>, line: Line) -> Result<Option<Reply>, Refusal>
+    ensures { Played S.Stage S.codes line result desk.old.board desk.new.board }
 {
     Ok(Some(match line {
         Line::Nothing | Line::Board(_) => return Ok(None),
@@ -106,6 +107,7 @@ pub fn play<S: Stage + Drop>(desk: &mut Desk<S>, line: Line) -> Result<Option<Re
             }
         }
         Line::Pairs => pairs(desk),
+        Line::Wires => Reply::Wires(desk.board().stage().codes()),
         Line::Packet(packet) => play_packet(desk, packet)?,
     }))
 }

@@ -1,4 +1,8 @@
+ghost use Rattle.std.specs.Prelude.{Some};
+ghost use Rattle.script.specs.Prints.{answer_text, reply_text};
+
 use board::refusal::Refusal;
+use stage::codes::Codes;
 use std::fmt;
 
 // What a line of a script is answered, unless one of its acts is refused.
@@ -10,10 +14,13 @@ pub enum Reply {
     NoSlip,
     // of gate 1, and of gate 2
     Pairs((i32, i32), (i32, i32)),
+    Wires(Codes),
     Value(i64),
 }
 
 impl fmt::Display for Reply {
+    ghost output = { λ reply. Some (reply_text reply) };
+
     fn fmt<W: fmt::Write>(&self, f: &mut fmt::Formatter<W>) -> fmt::Result {
         match *self {
             Reply::Done => f.write_str("ok"),
@@ -21,6 +28,7 @@ impl fmt::Display for Reply {
             Reply::Slip(gate) => write!(f, "slip {gate}"),
             Reply::NoSlip => f.write_str("no slip"),
             Reply::Pairs((a, b), (c, d)) => write!(f, "pairs {a} {b} {c} {d}"),
+            Reply::Wires(codes) => write!(f, "wires {codes}"),
             Reply::Value(value) => write!(f, "value {value}"),
         }
     }
@@ -31,6 +39,8 @@ impl fmt::Display for Reply {
 pub struct Answer(pub Result<Reply, Refusal>);
 
 impl fmt::Display for Answer {
+    ghost output = { λ answer. Some (answer_text answer.0) };
+
     fn fmt<W: fmt::Write>(&self, f: &mut fmt::Formatter<W>) -> fmt::Result {
         match self.0 {
             Ok(reply) => write!(f, "{reply}"),

@@ -10,8 +10,26 @@ mod tests {
     use script::number::{LONG, WORD, bits_of, number};
     use script::play::play;
     use script::reply::{Answer, Reply};
+    use stage::codes::{Codes, Wires};
     use stage::dac::Dac;
+    use stage::pulse::Pulse;
+    use stage::pwm::Pwm;
     use std::test::Fail;
+
+    const OFF: Pulse = Pulse {
+        magnitude: 0,
+        negative: false,
+    };
+
+    const MINUS_6: Pulse = Pulse {
+        magnitude: 6,
+        negative: true,
+    };
+
+    const PLUS_255: Pulse = Pulse {
+        magnitude: 255,
+        negative: false,
+    };
 
     // What is expected in place of the words, or none where they are a line.
     fn fault(words: &[&str]) -> Option<Expected> {
@@ -30,6 +48,7 @@ mod tests {
         assert_eq!(rt; fault(&["write", "1", "2"]), Some(Expected::Word));
         assert_eq!(rt; fault(&["read", "1"]), Some(Expected::Alone));
         assert_eq!(rt; fault(&["run", "-1"]), Some(Expected::Run));
+        assert_eq!(rt; fault(&["wires", "1"]), Some(Expected::Alone));
     }
 
     #[test]
@@ -77,12 +96,42 @@ mod tests {
         Ok(())
     }
 
+    // What the last of some lines is answered, on a new board.
+    fn last<S: Wires + Drop>(stage: S, lines: &[Line]) -> Result<Option<Reply>, Refusal> {
+        let mut desk = Desk::new(stage);
+        let mut reply = Ok(None);
+        for line in lines {
+            reply = play(&mut desk, *line);
+        }
+        let _board = desk.finish();
+        reply
+    }
+
+    // The words and the lines from tools/console.py.
+    #[test]
+    fn wires(rt: HostRuntime) -> Result<(), Fail> {
+        let lines = [
+            Line::try_from(["SET_ACTL_POS", "-1"].as_slice())?,
+            Line::try_from(["SET_MTR_CMD", "32767"].as_slice())?,
+            Line::try_from(["cycle"].as_slice())?,
+            Line::try_from(["wires"].as_slice())?,
+        ];
+        let words = Codes::Words((31_964, 65_525), (32_768, 32_768));
+        let pulses = Codes::Pulses((MINUS_6, PLUS_255), (OFF, OFF));
+        assert_eq!(rt; last(Dac::new(), &lines), Ok(Some(Reply::Wires(words))));
+        assert_eq!(rt; last(Pwm::new(), &lines), Ok(Some(Reply::Wires(pulses))));
+        Ok(())
+    }
+
     #[test]
     fn printed(rt: HostRuntime) -> Result<(), Fail> {
         let pairs = Answer(Ok(Reply::Pairs((-804, 32_757), (0, 0)))).to_string(rt.alloc())?;
         let refused = Answer(Err(Refusal::NotGiving)).to_string(rt.alloc())?;
         assert_eq!(rt; pairs.as_str(), "pairs -804 32757 0 0");
         assert_eq!(rt; refused.as_str(), "refused 4");
+        let pulses = Reply::Wires(Codes::Pulses((MINUS_6, PLUS_255), (OFF, OFF)));
+        let wires = Answer(Ok(pulses)).to_string(rt.alloc())?;
+        assert_eq!(rt; wires.as_str(), "wires -6 +255 +0 +0");
         Ok(())
     }
 }

@@ -4,4 +4,5 @@ pub mod Levels
 pub mod Dac
 pub mod Pulse
 pub mod Pwm
+pub mod Codes
 pub mod Wiring

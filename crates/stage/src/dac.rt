@@ -1,7 +1,9 @@
 ghost use Rattle.std.specs.Prelude.{◌≡◌, ◌<◌, ◌≤◌, pos, ◌+ℤ◌, MatchOption};
 ghost use Rattle.stage.specs.Dac.{number, dac_pairs, addressed};
+ghost use Rattle.stage.specs.declared.codes.Codes.TheVariants.{Words};
 ghost use Rattle.std.proofs.Common.{rules};
 
+use crate::codes::{Codes, Wires};
 use crate::cut::cut;
 use crate::levels::{Form, Levels};
 
@@ -43,5 +45,14 @@ impl Levels<Word> {
             _ => return None,
         };
         Some(word.0)
+    }
+}
+
+impl Wires for Levels<Word> {
+    ghost codes = { λ d. Words (d.one.0.0, d.one.1.0) (d.two.0.0, d.two.1.0) };
+
+    fn codes(&self) -> Codes {
+        let ((a, b), (c, d)) = (self.one, self.two);
+        Codes::Words((a.0, b.0), (c.0, d.0))
     }
 }

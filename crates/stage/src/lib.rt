@@ -4,6 +4,7 @@
 ghost use Rattle.std.specs.Prelude.{◌≡◌, ℕ, ◌≤◌};
 ghost use Rattle.stage.specs.Pairs.{Pairs, Bounded, pair_of, shown};
 
+pub mod codes;
 pub mod cut;
 pub mod dac;
 pub mod levels;

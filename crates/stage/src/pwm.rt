@@ -1,8 +1,10 @@
 ghost use Rattle.std.specs.Prelude.{◌≡◌, true, false, IfSome, MatchOption};
 ghost use Rattle.stage.specs.Pairs.{is_gate, pair_of};
 ghost use Rattle.stage.specs.Pulse.{number, numbers, zero_positive, zeros_positive};
+ghost use Rattle.stage.specs.declared.codes.Codes.TheVariants.{Pulses};
 ghost use Rattle.std.proofs.Common.{rules};
 
+use crate::codes::{Codes, Wires};
 use crate::cut::cut;
 use crate::levels::{Form, Levels};
 use crate::pulse::Pulse;
@@ -57,5 +59,14 @@ impl Levels<Lines> {
             _ => return None,
         };
         Some((a.pulse, b.pulse))
+    }
+}
+
+impl Wires for Levels<Lines> {
+    ghost codes = { λ p. Pulses (p.one.0.pulse, p.one.1.pulse) (p.two.0.pulse, p.two.1.pulse) };
+
+    fn codes(&self) -> Codes {
+        let ((a, b), (c, d)) = (self.one, self.two);
+        Codes::Pulses((a.pulse, b.pulse), (c.pulse, d.pulse))
     }
 }
