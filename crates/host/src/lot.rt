@@ -1,8 +1,9 @@
 ghost use Rattle.std.specs.Prelude.{◌≡◌, None, pos};
+ghost use Rattle.gate.specs.Sound.{Sound};
 ghost use Rattle.host.specs.Lots.{noted};
 
 use gate::gate::Gate;
-use motion::course::MICROSTEP;
+use motion::course::whole_steps;
 use std::fmt;
 
 // A lot of olives: where its gate is sent, and the time at which a breakpoint latches that.
@@ -66,7 +67,7 @@ pub struct Outcome {
     // the first cycle in which the gate moved, and the one in which it came to rest again
     pub set_off: Option<u32>,
     pub arrived: Option<u32>,
-    pub target: i64,
+    pub target: i32,
 }
 
 impl Outcome {
@@ -82,8 +83,8 @@ impl Outcome {
     }
 
     // Notes what a cycle did to the gate.
-    #[tactic(auto, unfolding(motion::specs::Course::whole_steps))]
     pub fn note(&mut self, gate: Gate)
+        requires { Sound gate }
         ensures { self.new ≡ noted self.old gate }
     {
         let now = gate.clock.time();
@@ -92,7 +93,7 @@ impl Outcome {
         } else if self.set_off.is_some() {
             self.arrived.get_or_insert(now);
         }
-        self.target = gate.motion.target.div_euclid(MICROSTEP);
+        self.target = whole_steps(gate.motion.target);
     }
 }
 

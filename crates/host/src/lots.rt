@@ -1,5 +1,9 @@
-ghost use Rattle.std.specs.Prelude.{◌≡◌, true};
+ghost use Rattle.std.specs.Prelude.{◌≡◌, ◌<◌, ◌-◌, true, ℕ, Result, Option, OnOk, IfOk};
+ghost use Rattle.std.specs.Option.{option_copied};
 ghost use Rattle.stage.specs.Pairs.{is_gate};
+ghost use Rattle.gate.specs.Sound.{Sound};
+ghost use Rattle.board.specs.Acts.{gate_of, state_of};
+ghost use Rattle.host.specs.Works.{notes_of, no_notes, with_note, lot_beside, following, bench_of, new_bench, Noted, Readied, Loaded, Served, Run, IfSomething, Worked, AllWorked};
 
 use crate::lot::{CYCLES, Lot, Outcome};
 use board::command::{Command, Whose};
@@ -9,7 +13,7 @@ use gate::breakpoint::BreakMode;
 use gate::gate::Gate;
 use gate::inputs::Inputs;
 use gate::orders::{LongOrder, Order, WordOrder};
-use motion::course::MICROSTEP;
+use motion::course::whole_steps;
 use script::line::Packet;
 use script::play::play_packet;
 use script::reply::Reply;
@@ -28,7 +32,9 @@ pub struct Work {
 const SERVED: u16 = 0xfffe;
 
 impl Work {
-    fn new(heap: Global, whose: Whose) -> Work {
+    fn new(heap: Global, whose: Whose) -> Work
+        ensures { notes_of result ≡ no_notes whose }
+    {
         Work {
             whose,
             outcomes: Vec::new(heap),
@@ -36,11 +42,14 @@ impl Work {
         }
     }
 
+    // Plays packets, and notes what they are answered.
     fn send<S: Stage + Drop>(
         &mut self,
         desk: &mut Desk<S>,
         packets: &[Packet],
-    ) -> Result<(), AllocError> {
+    ) -> Result<(), AllocError>
+        ensures { OnOk result (Noted S.Stage packets.now (notes_of self.old) desk.old.board (notes_of self.new) desk.new.board) }
+    {
         for packet in packets {
             self.answers.push(play_packet(desk, *packet))?;
         }
@@ -53,7 +62,9 @@ impl Work {
         desk: &mut Desk<S>,
         power: u16,
         mask: u16,
-    ) -> Result<(), AllocError> {
+    ) -> Result<(), AllocError>
+        ensures { OnOk result (Readied S.Stage power mask (notes_of self.old) desk.old.board (notes_of self.new) desk.new.board) }
+    {
         let packets = [
             Packet::Plain(Command::Status(self.whose)),
             Packet::Word(Command::Word(WordOrder::Power), power),
@@ -63,7 +74,9 @@ impl Work {
     }
 
     // Loads a lot, to be latched by a breakpoint at its time.
-    fn order<S: Stage + Drop>(&mut self, desk: &mut Desk<S>, lot: Lot) -> Result<(), AllocError> {
+    fn order<S: Stage + Drop>(&mut self, desk: &mut Desk<S>, lot: Lot) -> Result<(), AllocError>
+        ensures { OnOk result (Loaded S.Stage lot (notes_of self.old) desk.old.board (notes_of self.new) desk.new.board) }
+    {
         self.outcomes.push(Outcome::new(lot))?;
         let destination = lot.destination.cast_unsigned();
         let packets = [
@@ -77,15 +90,34 @@ impl Work {
         self.send(desk, &packets)
     }
 
+    // The same, if there is a lot.
+    fn order_if<S: Stage + Drop>(
+        &mut self,
+        desk: &mut Desk<S>,
+        lot: Option<Lot>,
+    ) -> Result<(), AllocError>
+        ensures { OnOk result (IfSomething S.Stage (Loaded S.Stage) lot (notes_of self.old) desk.old.board (notes_of self.new) desk.new.board) }
+    {
+        match lot {
+            Some(lot) => self.order(desk, lot),
+            None => Ok(()),
+        }
+    }
+
     // Notes what a cycle did to the gate, with the lot that it works.
-    fn note(&mut self, gate: Gate) {
+    fn note(&mut self, gate: Gate)
+        requires { Sound gate }
+        ensures { notes_of self.new ≡ with_note gate (notes_of self.old) }
+    {
         if let Some(outcome) = self.outcomes.last_mut() {
             outcome.note(gate);
         }
     }
 
     // Serves the gate's call.
-    fn serve<S: Stage + Drop>(&mut self, desk: &mut Desk<S>) -> Result<(), AllocError> {
+    fn serve<S: Stage + Drop>(&mut self, desk: &mut Desk<S>) -> Result<(), AllocError>
+        ensures { OnOk result ((taken : Result ℕ Refusal) × Served S.Stage taken (notes_of self.old) desk.old.board (notes_of self.new) desk.new.board) }
+    {
         let taken = desk.take();
         self.answers.push(taken.map(Reply::Slip))?;
         if let Ok(gate) = taken {
@@ -99,13 +131,18 @@ impl Work {
 
 fn record<S: Stage + Drop>(desk: &Desk<S>, gate: u8) -> Gate
     requires { is_gate gate ≡ true }
+    ensures sound { Sound result }
+    ensures is { result ≡ gate_of (state_of desk.now.board.table) (gate - 1) }
 {
     desk.board().record(gate).unwrap()
 }
 
 // An encoder that follows its motor: it counts what the target position is ahead of the actual one.
-fn follow(gate: Gate) -> Inputs {
-    let ahead = gate.motion.target.div_euclid(MICROSTEP) - i64::from(gate.actual);
+fn follow(gate: Gate) -> Inputs
+    requires { Sound gate }
+    ensures { result ≡ following gate }
+{
+    let ahead = whole_steps(gate.motion.target) - gate.actual;
     Inputs {
         count: ahead.clamp(-32_768, 32_767) as i16,
         ..Inputs::STILL
@@ -113,12 +150,40 @@ fn follow(gate: Gate) -> Inputs {
 }
 
 // Runs the cycles of a lot, and notes what both gates do.
-fn run<S: Stage + Drop>(desk: &mut Desk<S>, left: &mut Work, right: &mut Work) {
+fn run<S: Stage + Drop>(desk: &mut Desk<S>, left: &mut Work, right: &mut Work)
+    ensures { Run S.Stage 160 (bench_of S.Stage desk.old.board left.old right.old) (bench_of S.Stage desk.new.board left.new right.new) }
+{
     for _cycle in 0..CYCLES {
         let (one, two) = (follow(record(desk, 1)), follow(record(desk, 2)));
         desk.cycle(one, two);
         left.note(record(desk, 1));
         right.note(record(desk, 2));
+    }
+}
+
+// Works a lot of the left gate, and one of the right gate beside it, if there is one.
+fn work_lot<S: Stage + Drop>(
+    desk: &mut Desk<S>,
+    left: &mut Work,
+    right: &mut Work,
+    lot: Lot,
+    beside: Option<Lot>,
+) -> Result<(), AllocError>
+    ensures { OnOk result (Worked S.Stage lot beside (bench_of S.Stage desk.old.board left.old right.old) (bench_of S.Stage desk.new.board left.new right.new)) }
+{
+    left.order(desk, lot)?;
+    right.order_if(desk, beside)?;
+    run(desk, left, right);
+    left.serve(desk)
+}
+
+// The lot at a place, if there are lots.
+fn lot_at<const N: usize>(lots: Option<&[Lot; N]>, index: usize) -> Option<Lot>
+    ensures { result ≡ lot_beside (option_copied lots.entry) index }
+{
+    match lots {
+        Some(lots) => lots.get(index).copied(),
+        None => None,
     }
 }
 
@@ -128,7 +193,9 @@ pub fn work_lots<S: Stage + Drop, const N: usize>(
     desk: &mut Desk<S>,
     left: &[Lot; N],
     right: Option<&[Lot; N]>,
-) -> Result<(Work, Work), AllocError> {
+) -> Result<(Work, Work), AllocError>
+    ensures { IfOk result (λ works. AllWorked S.Stage left.now (option_copied right.entry) (new_bench S.Stage desk.old.board) (bench_of S.Stage desk.new.board works.0 works.1)) }
+{
     let mut one = Work::new(heap, Whose::First);
     let mut two = Work::new(heap, Whose::Second);
     one.prepare(desk, 20_000, 1)?;
@@ -136,12 +203,7 @@ pub fn work_lots<S: Stage + Drop, const N: usize>(
         two.prepare(desk, 12_000, 0)?;
     }
     for (index, lot) in left.iter().enumerate() {
-        one.order(desk, *lot)?;
-        if let Some(lots) = right {
-            two.order(desk, lots[index])?;
-        }
-        run(desk, &mut one, &mut two);
-        one.serve(desk)?;
+        work_lot(desk, &mut one, &mut two, *lot, lot_at(right, index))?;
     }
     Ok((one, two))
 }
