@@ -1,3 +1,4 @@
 pub mod Makes
 pub mod Lots
 pub mod Works
+pub mod Scripts

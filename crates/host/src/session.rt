@@ -1,10 +1,16 @@
+ghost use Rattle.std.specs.Prelude.{◌≡◌, IfOk};
+ghost use Rattle.std.specs.Str.Lines.{lines};
+ghost use Rattle.host.specs.Scripts.{uncommented, TextPlayed, ScriptPlayed};
+
 use script::boards::Boards;
 use script::line::Line;
 use script::reply::Answer;
 use stage::codes::Wires;
 
 // A line of a script without its comment.
-fn uncommented(line: &str) -> &str {
+fn uncommented(line: &str) -> &str
+    ensures { result.now ≡ uncommented line.now }
+{
     line.split_once('#')
         .map_or(line, |(before, _comment)| before)
 }
@@ -15,7 +21,9 @@ fn play_line<S: Wires + Drop, R: Wires + Drop>(
     boards: &mut Boards<S, R>,
     number: usize,
     text: &str,
-) -> anyhow::Result<bool> {
+) -> anyhow::Result<bool>
+    ensures { IfOk result (λ readable. TextPlayed S.Stage R.Stage text.now readable boards.old boards.new) }
+{
     let words: Vec<&str> = uncommented(text).split_whitespace().collect(rt.alloc())?;
     match Line::try_from(words.as_slice()) {
         Ok(line) => {
@@ -36,7 +44,9 @@ pub fn play_script<S: Wires + Drop, R: Wires + Drop>(
     rt: &HostRuntime,
     boards: &mut Boards<S, R>,
     script: &str,
-) -> anyhow::Result<usize> {
+) -> anyhow::Result<usize>
+    ensures { IfOk result (λ faults. ScriptPlayed S.Stage R.Stage (lines script.now) faults boards.old boards.new) }
+{
     // Counted in the loop: a fold that may fail would hide the printing of a line in a closure.
     let mut faults = 0usize;
     for (index, line) in script.lines().enumerate() {
