@@ -1,6 +1,6 @@
 pub mod Tables
 pub mod Owed
-pub mod Moves
+pub mod Transitions
 pub mod Lists
 pub mod Owners
 pub mod Books

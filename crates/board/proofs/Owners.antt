@@ -4,7 +4,7 @@ use Rattle.std.proofs.lemmas.Bool.{eq-eqb, lt-ltb, ltb-true}
 use Rattle.gate.specs.declared.gate.Gate.{Gate}
 use Rattle.gate.specs.declared.orders.Order.TheVariants.{Update}
 use Rattle.gate.specs.Events.{bit}
-use Rattle.gate.specs.Queries.{calling}
+use Rattle.gate.specs.Queries.{is_calling}
 use Rattle.board.specs.declared.command.Command.{Command}
 use Rattle.board.specs.declared.command.Command.TheVariants.{Status, Ask, Now, Word, Long, MultiUpdate}
 use Rattle.board.specs.declared.command.Whose.{Whose}
@@ -17,37 +17,38 @@ use Rattle.board.specs.declared.port.Step.{Step}
 use Rattle.board.specs.declared.port.Step.TheVariants as step
 use Rattle.board.specs.declared.refusal.Refusal.{Refusal}
 use Rattle.board.specs.declared.refusal.Refusal.TheVariants.{NoSlip}
-use Rattle.board.specs.Commands.{decoded}
+use Rattle.board.specs.Commands.{command_of}
 use Rattle.board.specs.Ports.{command_step, write_step, read_step, start_step, port_step}
-use Rattle.board.specs.Own.{Own, restart, tick, told, told_word, told_long, asked, viewed, taken, closed, replay}
-use Rattle.board.specs.Acts.{State, gate_of, Act, act_command, act_write, act_read, act_cycle, act_reset, act_take, act_close, counts, whose, caller, lendable, enters, enters_if, held, updates, unfit, on_step, move, current_after, entries, after}
-use Rattle.board.specs.Owners.{GivesCommand, IsLowest, is_waiting, IsNamed, Belongs, IsForeign, IsAtPort, Turns, Enters}
+use Rattle.board.specs.Own.{OwnEntry, entry_reset, entry_cycle, entry_order, entry_word_order, entry_long_order, entry_query, entry_status, entry_take, entry_close, gate_after_list}
+use Rattle.board.specs.Acts.{State, gate_of, Act, act_command, act_write, act_read, act_cycle, act_reset, act_take, act_close, counts_gate, whose, caller, lendable, enter, entry_transition, refuse, multi_update, refuse_value, step_transition, transition, current_after, entries, state_after_act}
+use Rattle.board.specs.Owners.{GivesCommand, IsLowest, is_waiting, IsNamed, Belongs, IsForeign, IsAtPort, SetsCurrent, GrowsByEntry}
 use Rattle.board.specs.Runs.{state_after}
-use Rattle.board.specs.Isolation.{own}
+use Rattle.board.specs.Isolation.{own_list}
 use Rattle.board.proofs.Lists.{after_gate}
 use Rattle.board.proofs.Tables.{by_two}
-use Rattle.board.proofs.Moves.{Ordinary, by_one, by_if, by_step}
+use Rattle.board.proofs.Transitions.{Ordinary, by_one, by_if, by_step}
 
 -- an entry that comes about where a test holds
-tested : (b : Bool) (x e : Own) → cond b (x ∷ []) [] ≡ e ∷ [] → (b ≡ true) × (x ≡ e)
+tested : (b : Bool) (x e : OwnEntry) → cond b (x ∷ []) [] ≡ e ∷ [] → (b ≡ true) × (x ≡ e)
 tested true x e h = (refl, cc)
 tested false x e h = cc
 
 -- an entry of gate j that stands in gate k's list
-entry_at : (k j : ℕ) (x e : Own) (P : Own → Type 0) → (k ≡ j → P x) → cond (eqb j k) (x ∷ []) [] ≡ e ∷ [] → P e
+entry_at : (k j : ℕ) (x e : OwnEntry) (P : OwnEntry → Type 0) → (k ≡ j → P x) → cond (eqb j k) (x ∷ []) [] ≡ e ∷ [] → P e
 entry_at k j x e P f h =
     let t = tested (eqb j k) x e h in
     subst P t.1 (f (sym (eqb-true j k t.0)))
 
-stands_at : (k j : ℕ) (x : Own) → k ≡ j → cond (eqb j k) (x ∷ []) [] ≡ x ∷ []
+stands_at : (k j : ℕ) (x : OwnEntry) → k ≡ j → cond (eqb j k) (x ∷ []) [] ≡ x ∷ []
 stands_at k j x e = ap (λ n. cond (eqb n k) (x ∷ []) []) (sym e) ∙ ap (λ b. cond b (x ∷ []) []) (eq-eqb k k refl)
 
-entry_if : (k : ℕ) (o : Option ℕ) (x e : Own) (P : Own → Type 0) → (o ≡ Some k → P x) → entries k (enters_if o x) ≡ e ∷ [] → P e
+entry_if : (k : ℕ) (o : Option ℕ) (x e : OwnEntry) (P : OwnEntry → Type 0) → (o ≡ Some k → P x) → entries k (entry_transition o x) ≡ e ∷ []
+    → P e
 entry_if k (Some j) x e P f h = entry_at k j x e P (λ i. f (ap Some (sym i))) h
 entry_if k None x e P f h = cc
 
-stands_if : (k : ℕ) (o : Option ℕ) (x : Own) → o ≡ Some k → entries k (enters_if o x) ≡ x ∷ []
-stands_if k o x e = ap (λ p. entries k (enters_if p x)) e ∙ stands_at k k x refl
+stands_if : (k : ℕ) (o : Option ℕ) (x : OwnEntry) → o ≡ Some k → entries k (entry_transition o x) ≡ x ∷ []
+stands_if k o x e = ap (λ p. entries k (entry_transition p x)) e ∙ stands_at k k x refl
 
 below_one : (P : ℕ → Type 0) → P 0 → (j : ℕ) → j < 1 → P j
 below_one P p zero l = p
@@ -77,39 +78,39 @@ is_lowest test s (suc (suc k)) l i = let no : ⊥ = omega arith in absurd no
 named_is : (k : ℕ) (s : State) (w : Whose) → whose s w ≡ Some k → IsNamed s w k
 named_is k s First h = cc
 named_is k s Second h = cc
-named_is k s Calling h = (lowest_is calling s k h).1
+named_is k s Calling h = (lowest_is is_calling s k h).1
 named_is k s Current h = cc
 
 whose_named : (k : ℕ) → k < 2 → (s : State) (w : Whose) → IsNamed s w k → whose s w ≡ Some k
 whose_named k l s First h = ap Some (sym h)
 whose_named k l s Second h = ap Some (sym h)
-whose_named k l s Calling h = is_lowest calling s k l h
+whose_named k l s Calling h = is_lowest is_calling s k l h
 whose_named k l s Current h = ap Some (sym h)
 
 -- the bit of gate k in a word of MULTI_UPDATE
-bit_counts : (w k : ℕ) → w < 4 → k < 2 → counts w k ≡ bit w k
-bit_counts zero k h l = by_two (λ k. counts 0 k ≡ bit 0 k) refl refl k l
-bit_counts (suc zero) k h l = by_two (λ k. counts 1 k ≡ bit 1 k) refl refl k l
-bit_counts (suc (suc zero)) k h l = by_two (λ k. counts 2 k ≡ bit 2 k) refl refl k l
-bit_counts (suc (suc (suc zero))) k h l = by_two (λ k. counts 3 k ≡ bit 3 k) refl refl k l
+bit_counts : (w k : ℕ) → w < 4 → k < 2 → counts_gate w k ≡ bit w k
+bit_counts zero k h l = by_two (λ k. counts_gate 0 k ≡ bit 0 k) refl refl k l
+bit_counts (suc zero) k h l = by_two (λ k. counts_gate 1 k ≡ bit 1 k) refl refl k l
+bit_counts (suc (suc zero)) k h l = by_two (λ k. counts_gate 2 k ≡ bit 2 k) refl refl k l
+bit_counts (suc (suc (suc zero))) k h l = by_two (λ k. counts_gate 3 k ≡ bit 3 k) refl refl k l
 bit_counts (suc (suc (suc (suc w)))) k h l = let no : ⊥ = omega arith in absurd no
 
-abbrev AtMostOne : List Own → Type 0
-AtMostOne es = (es ≡ []) ⊎ ((e : Own) × (es ≡ e ∷ []))
+abbrev AtMostOne : List OwnEntry → Type 0
+AtMostOne es = (es ≡ []) ⊎ ((e : OwnEntry) × (es ≡ e ∷ []))
 
 single : Ordinary AtMostOne
 single = record {
   none = inl refl;
-  orders = λ o. inr (told o, refl);
-  words = λ o w. inr (told_word o w, refl);
-  longs = λ o high low. inr (told_long o high low, refl);
-  asks = λ q. inr (asked q, refl);
-  views = λ w. inr (viewed w, refl);
+  orders = λ o. inr (entry_order o, refl);
+  words = λ o w. inr (entry_word_order o w, refl);
+  longs = λ o high low. inr (entry_long_order o high low, refl);
+  asks = λ q. inr (entry_query q, refl);
+  views = λ w. inr (entry_status w, refl);
 }
 
 -- a MULTI_UPDATE's word is taken where its packet is open
 gates_only : (p : Port) (i : Incoming) (w : ℕ) → port_step p i ≡ Ok (step.Gates w) → p ≡ TakingGates
-gates_only p (incoming.Command b) w e = go p (decoded b) e
+gates_only p (incoming.Command b) w e = go p (command_of b) e
   where
     go : (p : Port) (c : Option Command) → command_step p c ≡ Ok (step.Gates w) → p ≡ TakingGates
     go Idle (Some (Status x)) e = cc
@@ -145,14 +146,15 @@ gates_only p incoming.Read w e = go p e
 
 -- an act at a state, and what of it stands in the own list of gate k
 module _ (k : ℕ) (l : k < 2) (s : State) where
-  by_command : (b : ℕ) (c : Option Command) (p : Port) (e : Own) → decoded b ≡ c → s.port ≡ p → entries k (on_step s (command_step p c)) ≡ e ∷ []
+  by_command : (b : ℕ) (c : Option Command) (p : Port) (e : OwnEntry) → command_of b ≡ c → s.port ≡ p
+      → entries k (step_transition s (command_step p c)) ≡ e ∷ []
       → Belongs k s (act_command b) e
   by_command b (Some (Status w)) Idle e d i h =
-      entry_if k (whose s w) (viewed w) e (Belongs k s (act_command b)) (λ n. (record { code = b; act = refl; names = d; idle = i }, named_is k s w n)) h
+      entry_if k (whose s w) (entry_status w) e (Belongs k s (act_command b)) (λ n. (record { code = b; act = refl; names = d; idle = i }, named_is k s w n)) h
   by_command b (Some (Ask q)) Idle e d i h =
-      entry_at k s.current (asked q) e (Belongs k s (act_command b)) (λ n. (record { code = b; act = refl; names = d; idle = i }, n)) h
+      entry_at k s.current (entry_query q) e (Belongs k s (act_command b)) (λ n. (record { code = b; act = refl; names = d; idle = i }, n)) h
   by_command b (Some (Now o)) Idle e d i h =
-      entry_at k s.current (told o) e (Belongs k s (act_command b)) (λ n. inl (record { code = b; act = refl; names = d; idle = i }, n)) h
+      entry_at k s.current (entry_order o) e (Belongs k s (act_command b)) (λ n. inl (record { code = b; act = refl; names = d; idle = i }, n)) h
   by_command b (Some (Word o)) Idle e d i h = cc
   by_command b (Some (Long o)) Idle e d i h = cc
   by_command b (Some MultiUpdate) Idle e d i h = cc
@@ -163,22 +165,23 @@ module _ (k : ℕ) (l : k < 2) (s : State) where
   by_command b c TakingGates e d i h = cc
   by_command b c (Giving w t) e d i h = cc
 
-  by_write : (w : ℕ) (p : Port) (e : Own) → s.port ≡ p → entries k (on_step s (write_step p w)) ≡ e ∷ [] → Belongs k s (act_write w) e
+  by_write : (w : ℕ) (p : Port) (e : OwnEntry) → s.port ≡ p → entries k (step_transition s (write_step p w)) ≡ e ∷ []
+      → Belongs k s (act_write w) e
   by_write w Idle e i h = cc
-  by_write w (TakingWord o) e i h = entry_at k s.current (told_word o w) e (Belongs k s (act_write w)) (λ n. (refl, i, n)) h
+  by_write w (TakingWord o) e i h = entry_at k s.current (entry_word_order o w) e (Belongs k s (act_write w)) (λ n. (refl, i, n)) h
   by_write w (TakingHigh o) e i h = cc
-  by_write w (TakingLow o high) e i h = entry_at k s.current (told_long o high w) e (Belongs k s (act_write w)) (λ n. (refl, i, n)) h
+  by_write w (TakingLow o high) e i h = entry_at k s.current (entry_long_order o high w) e (Belongs k s (act_write w)) (λ n. (refl, i, n)) h
   by_write w TakingGates e i h = go (ltb w 4) refl h
     where
-      go : (t : Bool) → ltb w 4 ≡ t → entries k (cond t (updates w) unfit) ≡ e ∷ [] → Belongs k s (act_write w) e
+      go : (t : Bool) → ltb w 4 ≡ t → entries k (cond t (multi_update w) refuse_value) ≡ e ∷ [] → Belongs k s (act_write w) e
       go true r h =
-          let t = tested (counts w k) (told Update) e h in
+          let t = tested (counts_gate w k) (entry_order Update) e h in
           let range = ltb-true w 4 r in
           subst (Belongs k s (act_write w)) t.1 (inr (record { word = w; act = refl; taking = i; range = range; counted = sym (bit_counts w k range l) ∙ t.0; order = refl }))
       go false r h = cc
   by_write w (Giving a t) e i h = cc
 
-  by_read : (p : Port) (e : Own) → entries k (on_step s (read_step p)) ≡ e ∷ [] → Belongs k s act_read e
+  by_read : (p : Port) (e : OwnEntry) → entries k (step_transition s (read_step p)) ≡ e ∷ [] → Belongs k s act_read e
   by_read Idle e h = cc
   by_read (TakingWord o) e h = cc
   by_read (TakingHigh o) e h = cc
@@ -187,99 +190,104 @@ module _ (k : ℕ) (l : k < 2) (s : State) where
   by_read (Giving w t) e h = cc
 
   -- what stands in the list belongs there
-  pub belongs : (a : Act) (e : Own) → entries k (move s a) ≡ e ∷ [] → Belongs k s a e
-  belongs (act_command b) e h = by_command b (decoded b) s.port e refl refl h
+  pub belongs : (a : Act) (e : OwnEntry) → entries k (transition s a) ≡ e ∷ [] → Belongs k s a e
+  belongs (act_command b) e h = by_command b (command_of b) s.port e refl refl h
   belongs (act_write w) e h = by_write w s.port e refl h
   belongs act_read e h = by_read s.port e h
-  belongs (act_cycle i j) e h = subst (Belongs k s (act_cycle i j)) (tested true (tick (cond (eqb k 0) i j)) e h).1 (i, j, refl, refl)
-  belongs act_reset e h = subst (Belongs k s act_reset) (tested true restart e h).1 refl
-  belongs act_take e h = entry_if k (lendable s) taken e (Belongs k s act_take) (λ n. (refl, (lowest_is is_waiting s k n).1)) h
+  belongs (act_cycle i j) e h =
+      subst (Belongs k s (act_cycle i j)) (tested true (entry_cycle (cond (eqb k 0) i j)) e h).1 (i, j, refl, refl)
+  belongs act_reset e h = subst (Belongs k s act_reset) (tested true entry_reset e h).1 refl
+  belongs act_take e h = entry_if k (lendable s) entry_take e (Belongs k s act_take) (λ n. (refl, (lowest_is is_waiting s k n).1)) h
   belongs (act_close j w) e h = go (gate_of s j).slip refl h
     where
-      go : (t : Bool) → (gate_of s j).slip ≡ t → entries k (cond t (enters j (closed w)) (held NoSlip)) ≡ e ∷ [] → Belongs k s (act_close j w) e
+      go : (t : Bool) → (gate_of s j).slip ≡ t → entries k (cond t (enter j (entry_close w)) (refuse NoSlip)) ≡ e ∷ []
+          → Belongs k s (act_close j w) e
       go true r h =
-          entry_at k j (closed w) e (Belongs k s (act_close j w)) (λ n. (ap (λ i. act_close i w) (sym n), ap (λ i. (gate_of s i).slip) n ∙ r)) h
+          entry_at k j (entry_close w) e (Belongs k s (act_close j w)) (λ n. (ap (λ i. act_close i w) (sym n), ap (λ i. (gate_of s i).slip) n ∙ r)) h
       go false r h = cc
 
-  command_stands : (a : Act) (c : Command) → GivesCommand s a c → entries k (move s a) ≡ entries k (on_step s (start_step (Some c)))
+  command_stands : (a : Act) (c : Command) → GivesCommand s a c
+      → entries k (transition s a) ≡ entries k (step_transition s (start_step (Some c)))
   command_stands a c g =
-      ap (λ x. entries k (move s x)) g.act
-      ∙ (ap (λ p. entries k (on_step s (command_step p (decoded g.code)))) g.idle ∙ ap (λ o. entries k (on_step s (start_step o))) g.names)
+      ap (λ x. entries k (transition s x)) g.act
+      ∙ (ap (λ p. entries k (step_transition s (command_step p (command_of g.code)))) g.idle ∙ ap (λ o. entries k (step_transition s (start_step o))) g.names)
 
-  write_stands : (a : Act) (w : ℕ) (p : Port) → a ≡ act_write w → s.port ≡ p → entries k (move s a) ≡ entries k (on_step s (write_step p w))
-  write_stands a w p e i = ap (λ x. entries k (move s x)) e ∙ ap (λ q. entries k (on_step s (write_step q w))) i
+  write_stands : (a : Act) (w : ℕ) (p : Port) → a ≡ act_write w → s.port ≡ p
+      → entries k (transition s a) ≡ entries k (step_transition s (write_step p w))
+  write_stands a w p e i = ap (λ x. entries k (transition s x)) e ∙ ap (λ q. entries k (step_transition s (write_step q w))) i
 
   -- what belongs to the list stands in it
-  pub stands : (a : Act) (e : Own) → Belongs k s a e → entries k (move s a) ≡ e ∷ []
-  stands a restart b = ap (λ x. entries k (move s x)) b
-  stands a (tick i) b = ap (λ x. entries k (move s x)) b.2 ∙ ap (λ x. tick x ∷ []) (sym b.3)
-  stands a (told o) (inl b) = command_stands a (Now o) b.0 ∙ stands_at k s.current (told o) b.1
-  stands a (told o) (inr b) =
+  pub stands : (a : Act) (e : OwnEntry) → Belongs k s a e → entries k (transition s a) ≡ e ∷ []
+  stands a entry_reset b = ap (λ x. entries k (transition s x)) b
+  stands a (entry_cycle i) b = ap (λ x. entries k (transition s x)) b.2 ∙ ap (λ x. entry_cycle x ∷ []) (sym b.3)
+  stands a (entry_order o) (inl b) = command_stands a (Now o) b.0 ∙ stands_at k s.current (entry_order o) b.1
+  stands a (entry_order o) (inr b) =
       write_stands a b.word TakingGates b.act b.taking
-      ∙ (ap (λ t. entries k (cond t (updates b.word) unfit)) (lt-ltb b.word 4 b.range)
-      ∙ (ap (λ t. cond t (told Update ∷ []) []) (bit_counts b.word k b.range l ∙ b.counted) ∙ ap (λ x. told x ∷ []) (sym b.order)))
-  stands a (told_word o w) b = write_stands a w (TakingWord o) b.0 b.1 ∙ stands_at k s.current (told_word o w) b.2
-  stands a (told_long o high low) b = write_stands a low (TakingLow o high) b.0 b.1 ∙ stands_at k s.current (told_long o high low) b.2
-  stands a (asked q) b = command_stands a (Ask q) b.0 ∙ stands_at k s.current (asked q) b.1
-  stands a (viewed w) b = command_stands a (Status w) b.0 ∙ stands_if k (whose s w) (viewed w) (whose_named k l s w b.1)
-  stands a taken b = ap (λ x. entries k (move s x)) b.0 ∙ stands_if k (lendable s) taken (is_lowest is_waiting s k l b.1)
-  stands a (closed w) b =
-      ap (λ x. entries k (move s x)) b.0
-      ∙ (ap (λ t. entries k (cond t (enters k (closed w)) (held NoSlip))) b.1 ∙ stands_at k k (closed w) refl)
+      ∙ (ap (λ t. entries k (cond t (multi_update b.word) refuse_value)) (lt-ltb b.word 4 b.range)
+      ∙ (ap (λ t. cond t (entry_order Update ∷ []) []) (bit_counts b.word k b.range l ∙ b.counted) ∙ ap (λ x. entry_order x ∷ []) (sym b.order)))
+  stands a (entry_word_order o w) b = write_stands a w (TakingWord o) b.0 b.1 ∙ stands_at k s.current (entry_word_order o w) b.2
+  stands a (entry_long_order o high low) b =
+      write_stands a low (TakingLow o high) b.0 b.1 ∙ stands_at k s.current (entry_long_order o high low) b.2
+  stands a (entry_query q) b = command_stands a (Ask q) b.0 ∙ stands_at k s.current (entry_query q) b.1
+  stands a (entry_status w) b = command_stands a (Status w) b.0 ∙ stands_if k (whose s w) (entry_status w) (whose_named k l s w b.1)
+  stands a entry_take b = ap (λ x. entries k (transition s x)) b.0 ∙ stands_if k (lendable s) entry_take (is_lowest is_waiting s k l b.1)
+  stands a (entry_close w) b =
+      ap (λ x. entries k (transition s x)) b.0
+      ∙ (ap (λ t. entries k (cond t (enter k (entry_close w)) (refuse NoSlip))) b.1 ∙ stands_at k k (entry_close w) refl)
 
-  pub at_most_one : (a : Act) → AtMostOne (entries k (move s a))
+  pub at_most_one : (a : Act) → AtMostOne (entries k (transition s a))
   at_most_one (act_command b) = by_step single k s (port_step s.port (incoming.Command b))
   at_most_one (act_write w) = by_step single k s (port_step s.port (incoming.Write w))
   at_most_one act_read = by_step single k s (port_step s.port incoming.Read)
-  at_most_one (act_cycle i j) = inr (tick (cond (eqb k 0) i j), refl)
-  at_most_one act_reset = inr (restart, refl)
-  at_most_one act_take = by_if single k (lendable s) taken (inr (taken, refl))
+  at_most_one (act_cycle i j) = inr (entry_cycle (cond (eqb k 0) i j), refl)
+  at_most_one act_reset = inr (entry_reset, refl)
+  at_most_one act_take = by_if single k (lendable s) entry_take (inr (entry_take, refl))
   at_most_one (act_close j w) = go (gate_of s j).slip
     where
-      go : (t : Bool) → AtMostOne (entries k (cond t (enters j (closed w)) (held NoSlip)))
-      go true = by_one single (eqb j k) (closed w) (inr (closed w, refl))
+      go : (t : Bool) → AtMostOne (entries k (cond t (enter j (entry_close w)) (refuse NoSlip)))
+      go true = by_one single (eqb j k) (entry_close w) (inr (entry_close w, refl))
       go false = inl refl
 
   -- an act that makes no entry leaves the gate's record as it was
-  pub no_entry : (a : Act) → IsForeign k s a → entries k (move s a) ≡ []
+  pub no_entry : (a : Act) → IsForeign k s a → entries k (transition s a) ≡ []
   no_entry a foreign = go (at_most_one a)
     where
-      go : AtMostOne (entries k (move s a)) → entries k (move s a) ≡ []
+      go : AtMostOne (entries k (transition s a)) → entries k (transition s a) ≡ []
       go (inl e) = e
       go (inr p) = absurd (foreign p.0 (belongs a p.0 p.1))
 
-  pub spared_gate : (a : Act) → IsForeign k s a → gate_of (after s a) k ≡ gate_of s k
-  spared_gate a foreign = after_gate s a k l ∙ ap (λ es. replay es (gate_of s k)) (no_entry a foreign)
+  pub spared_gate : (a : Act) → IsForeign k s a → gate_of (state_after_act s a) k ≡ gate_of s k
+  spared_gate a foreign = after_gate s a k l ∙ ap (λ es. gate_after_list es (gate_of s k)) (no_entry a foreign)
 
   -- what comes to the port, but a word of MULTI_UPDATE, leaves a gate that is not current as it was
-  off_current : (x : Own) → (k ≡ s.current → ⊥) → replay (cond (eqb s.current k) (x ∷ []) []) (gate_of s k) ≡ gate_of s k
+  off_current : (x : OwnEntry) → (k ≡ s.current → ⊥) → gate_after_list (cond (eqb s.current k) (x ∷ []) []) (gate_of s k) ≡ gate_of s k
   off_current x apart = go (eqb s.current k) refl
     where
-      go : (t : Bool) → eqb s.current k ≡ t → replay (cond t (x ∷ []) []) (gate_of s k) ≡ gate_of s k
+      go : (t : Bool) → eqb s.current k ≡ t → gate_after_list (cond t (x ∷ []) []) (gate_of s k) ≡ gate_of s k
       go true e = absurd (apart (sym (eqb-true s.current k e)))
       go false e = refl
 
-  off_status : (o : Option ℕ) (w : Whose) → replay (entries k (enters_if o (viewed w))) (gate_of s k) ≡ gate_of s k
+  off_status : (o : Option ℕ) (w : Whose) → gate_after_list (entries k (entry_transition o (entry_status w))) (gate_of s k) ≡ gate_of s k
   off_status (Some j) w = go (eqb j k)
     where
-      go : (t : Bool) → replay (cond t (viewed w ∷ []) []) (gate_of s k) ≡ gate_of s k
+      go : (t : Bool) → gate_after_list (cond t (entry_status w ∷ []) []) (gate_of s k) ≡ gate_of s k
       go true = refl
       go false = refl
   off_status None w = refl
 
   off_step : (r : Result Step Refusal) → ((w : ℕ) → r ≡ Ok (step.Gates w) → ⊥) → (k ≡ s.current → ⊥)
-      → replay (entries k (on_step s r)) (gate_of s k) ≡ gate_of s k
+      → gate_after_list (entries k (step_transition s r)) (gate_of s k) ≡ gate_of s k
   off_step (Err e) gates apart = refl
   off_step (Ok step.Wait) gates apart = refl
   off_step (Ok (step.View w)) gates apart = off_status (whose s w) w
-  off_step (Ok (step.Ask q)) gates apart = off_current (asked q) apart
-  off_step (Ok (step.Run o)) gates apart = off_current (told o) apart
-  off_step (Ok (step.Word o w)) gates apart = off_current (told_word o w) apart
-  off_step (Ok (step.Long o high low)) gates apart = off_current (told_long o high low) apart
+  off_step (Ok (step.Ask q)) gates apart = off_current (entry_query q) apart
+  off_step (Ok (step.Run o)) gates apart = off_current (entry_order o) apart
+  off_step (Ok (step.Word o w)) gates apart = off_current (entry_word_order o w) apart
+  off_step (Ok (step.Long o high low)) gates apart = off_current (entry_long_order o high low) apart
   off_step (Ok (step.Gates w)) gates apart = absurd (gates w refl)
   off_step (Ok (step.Give w)) gates apart = refl
 
-  pub other_gate : (a : Act) → IsAtPort a → (s.port ≡ TakingGates → ⊥) → (k ≡ s.current → ⊥) → gate_of (after s a) k ≡ gate_of s k
+  pub other_gate : (a : Act) → IsAtPort a → (s.port ≡ TakingGates → ⊥) → (k ≡ s.current → ⊥) → gate_of (state_after_act s a) k ≡ gate_of s k
   other_gate (act_command b) at taking apart =
       after_gate s (act_command b) k l ∙ off_step (port_step s.port (incoming.Command b)) (λ w e. taking (gates_only s.port (incoming.Command b) w e)) apart
   other_gate (act_write x) at taking apart =
@@ -292,15 +300,16 @@ module _ (k : ℕ) (l : k < 2) (s : State) where
   other_gate (act_close j w) at taking apart = absurd at
 
 -- which gate is current
-current_stays : (s : State) (b : ℕ) (c : Option Command) (p : Port) → decoded b ≡ c → s.port ≡ p
-    → ((k : ℕ) → k < 2 → (w : Whose) → Belongs k s (act_command b) (viewed w) → ⊥) → current_after s.current (on_step s (command_step p c)) ≡ s.current
+current_stays : (s : State) (b : ℕ) (c : Option Command) (p : Port) → command_of b ≡ c → s.port ≡ p
+    → ((k : ℕ) → k < 2 → (w : Whose) → Belongs k s (act_command b) (entry_status w) → ⊥)
+    → current_after s.current (step_transition s (command_step p c)) ≡ s.current
 current_stays s b (Some (Status First)) Idle d i foreign = absurd (foreign 0 (omega arith) First (record { code = b; act = refl; names = d; idle = i }, refl))
 current_stays s b (Some (Status Second)) Idle d i foreign = absurd (foreign 1 (omega arith) Second (record { code = b; act = refl; names = d; idle = i }, refl))
 current_stays s b (Some (Status Calling)) Idle d i foreign = go (caller s) refl
   where
-    go : (o : Option ℕ) → caller s ≡ o → current_after s.current (enters_if o (viewed Calling)) ≡ s.current
+    go : (o : Option ℕ) → caller s ≡ o → current_after s.current (entry_transition o (entry_status Calling)) ≡ s.current
     go (Some j) e =
-        let is = lowest_is calling s j e in
+        let is = lowest_is is_calling s j e in
         absurd (foreign j is.0 Calling (record { code = b; act = refl; names = d; idle = i }, is.1))
     go None e = refl
 current_stays s b (Some (Status Current)) Idle d i foreign = refl
@@ -316,19 +325,19 @@ current_stays s b c (TakingLow o high) d i foreign = refl
 current_stays s b c TakingGates d i foreign = refl
 current_stays s b c (Giving w t) d i foreign = refl
 
-write_stays : (s : State) (p : Port) (w : ℕ) → current_after s.current (on_step s (write_step p w)) ≡ s.current
+write_stays : (s : State) (p : Port) (w : ℕ) → current_after s.current (step_transition s (write_step p w)) ≡ s.current
 write_stays s Idle w = refl
 write_stays s (TakingWord o) w = refl
 write_stays s (TakingHigh o) w = refl
 write_stays s (TakingLow o high) w = refl
 write_stays s TakingGates w = go (ltb w 4)
   where
-    go : (t : Bool) → current_after s.current (cond t (updates w) unfit) ≡ s.current
+    go : (t : Bool) → current_after s.current (cond t (multi_update w) refuse_value) ≡ s.current
     go true = refl
     go false = refl
 write_stays s (Giving a t) w = refl
 
-read_stays : (s : State) (p : Port) → current_after s.current (on_step s (read_step p)) ≡ s.current
+read_stays : (s : State) (p : Port) → current_after s.current (step_transition s (read_step p)) ≡ s.current
 read_stays s Idle = refl
 read_stays s (TakingWord o) = refl
 read_stays s (TakingHigh o) = refl
@@ -336,39 +345,40 @@ read_stays s (TakingLow o high) = refl
 read_stays s TakingGates = refl
 read_stays s (Giving w t) = refl
 
-pub turns : (s : State) (a : Act) → Turns s a (after s a)
+pub turns : (s : State) (a : Act) → SetsCurrent s a (state_after_act s a)
 turns s a = record {
-  reset = λ e. ap (λ x. (after s x).current) e;
+  reset = λ e. ap (λ x. (state_after_act s x).current) e;
   status = λ k l w b.
-      ap (λ x. (after s x).current) b.0.act
-      ∙ (ap (λ p. current_after s.current (on_step s (command_step p (decoded b.0.code)))) b.0.idle
-      ∙ (ap (λ o. current_after s.current (on_step s (start_step o))) b.0.names
-      ∙ ap (λ o. current_after s.current (enters_if o (viewed w))) (whose_named k l s w b.1)));
+      ap (λ x. (state_after_act s x).current) b.0.act
+      ∙ (ap (λ p. current_after s.current (step_transition s (command_step p (command_of b.0.code)))) b.0.idle
+      ∙ (ap (λ o. current_after s.current (step_transition s (start_step o))) b.0.names
+      ∙ ap (λ o. current_after s.current (entry_transition o (entry_status w))) (whose_named k l s w b.1)));
   stays = by a;
 }
   where
-    by : (a : Act) → a ≢ act_reset → ((k : ℕ) → k < 2 → (w : Whose) → Belongs k s a (viewed w) → ⊥) → (after s a).current ≡ s.current
-    by (act_command b) other foreign = current_stays s b (decoded b) s.port refl refl foreign
+    by : (a : Act) → a ≢ act_reset → ((k : ℕ) → k < 2 → (w : Whose) → Belongs k s a (entry_status w) → ⊥)
+        → (state_after_act s a).current ≡ s.current
+    by (act_command b) other foreign = current_stays s b (command_of b) s.port refl refl foreign
     by (act_write w) other foreign = write_stays s s.port w
     by act_read other foreign = read_stays s s.port
     by (act_cycle i j) other foreign = refl
     by act_reset other foreign = absurd (other refl)
     by act_take other foreign = go (lendable s)
       where
-        go : (o : Option ℕ) → current_after s.current (enters_if o taken) ≡ s.current
+        go : (o : Option ℕ) → current_after s.current (entry_transition o entry_take) ≡ s.current
         go (Some j) = refl
         go None = refl
     by (act_close j w) other foreign = go (gate_of s j).slip
       where
-        go : (t : Bool) → current_after s.current (cond t (enters j (closed w)) (held NoSlip)) ≡ s.current
+        go : (t : Bool) → current_after s.current (cond t (enter j (entry_close w)) (refuse NoSlip)) ≡ s.current
         go true = refl
         go false = refl
 
-grown : (es ds : List Own) → AtMostOne es → (es ++ ds ≡ ds) ⊎ ((e : Own) × (es ++ ds ≡ e ∷ ds))
+grown : (es ds : List OwnEntry) → AtMostOne es → (es ++ ds ≡ ds) ⊎ ((e : OwnEntry) × (es ++ ds ≡ e ∷ ds))
 grown es ds (inl n) = inl (ap (λ x. x ++ ds) n)
 grown es ds (inr p) = inr (p.0, ap (λ x. x ++ ds) p.1)
 
-front : (es ds : List Own) (e : Own) → AtMostOne es → es ++ ds ≡ e ∷ ds → es ≡ e ∷ []
+front : (es ds : List OwnEntry) (e : OwnEntry) → AtMostOne es → es ++ ds ≡ e ∷ ds → es ≡ e ∷ []
 front es ds e (inl n) g =
     let long : length ds ≡ length (e ∷ ds) = ap length (sym (ap (λ x. x ++ ds) n) ∙ g) in
     let no : ⊥ = omega arith in
@@ -379,12 +389,12 @@ front es ds e (inr p) g =
     p.1 ∙ ap (λ x. x ∷ []) is
 
 -- an own list grows by what belongs to it
-pub entered : (k : ℕ) → k < 2 → (a : Act) (h : List Act) → Enters k (state_after h) a (own k h) (own k (a ∷ h))
+pub entered : (k : ℕ) → k < 2 → (a : Act) (h : List Act) → GrowsByEntry k (state_after h) a (own_list k h) (own_list k (a ∷ h))
 entered k l a h =
     let s = state_after h in
-    let es = entries k (move s a) in
+    let es = entries k (transition s a) in
     record {
-      one = grown es (own k h) (at_most_one k l s a);
-      belongs = λ e g. belongs k l s a e (front es (own k h) e (at_most_one k l s a) g);
-      stands = λ e b. ap (λ x. x ++ own k h) (stands k l s a e b);
+      one = grown es (own_list k h) (at_most_one k l s a);
+      belongs = λ e g. belongs k l s a e (front es (own_list k h) e (at_most_one k l s a) g);
+      stands = λ e b. ap (λ x. x ++ own_list k h) (stands k l s a e b);
     }

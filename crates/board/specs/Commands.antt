@@ -55,12 +55,12 @@ code_table b =
     (cond (b == 0x77) (Some (Word word.BufferedPower)) None))))))))))))))))))))))))))))))))))))
 
 -- the table, shut, so that a proof above it does not look at each code
-unfoldable pub decoded : ℕ → Option Command
-decoded b = code_table b
+unfoldable pub command_of : ℕ → Option Command
+command_of b = code_table b
 
 -- a code that no command has is refused
 abbrev pub Decodes : ℕ → Result Command Refusal → Type 0
-Decodes b r = r ≡ ok_or (decoded b) Unknown
+Decodes b r = r ≡ ok_or (command_of b) Unknown
 
 -- a command's code names it
 abbrev pub Encodes : Command → ℕ → Type 0

@@ -5,21 +5,21 @@ use Rattle.gate.specs.declared.inputs.Inputs.{Inputs}
 use Rattle.gate.specs.declared.orders.Order.{Order}
 use Rattle.gate.specs.declared.orders.Order.TheVariants.{Update}
 use Rattle.gate.specs.Events.{bit}
-use Rattle.gate.specs.Queries.{calling}
+use Rattle.gate.specs.Queries.{is_calling}
 use Rattle.board.specs.declared.command.Command.{Command}
 use Rattle.board.specs.declared.command.Command.TheVariants.{Status, Ask, Now}
 use Rattle.board.specs.declared.command.Whose.{Whose}
 use Rattle.board.specs.declared.command.Whose.TheVariants.{First, Second, Calling, Current}
 use Rattle.board.specs.declared.port.Port.TheVariants.{Idle, TakingWord, TakingLow, TakingGates}
-use Rattle.board.specs.Commands.{decoded}
-use Rattle.board.specs.Own.{Own, restart, tick, told, told_word, told_long, asked, viewed, taken, closed}
+use Rattle.board.specs.Commands.{command_of}
+use Rattle.board.specs.Own.{OwnEntry, entry_reset, entry_cycle, entry_order, entry_word_order, entry_long_order, entry_query, entry_status, entry_take, entry_close}
 use Rattle.board.specs.Acts.{State, gate_of, Act, act_command, act_write, act_read, act_cycle, act_reset, act_take, act_close}
 
 -- the code of a command comes to an idle port
 pub record GivesCommand (s : State) (a : Act) (c : Command) : Type 0 where
   pub code : ℕ
   pub act : a ≡ act_command code
-  pub names : decoded code ≡ Some c
+  pub names : command_of code ≡ Some c
   pub idle : s.port ≡ Idle
 
 -- a MULTI_UPDATE's word comes, in its range, with the bit of gate k set
@@ -38,32 +38,32 @@ pub record IsLowest (test : Gate → Bool) (s : State) (k : ℕ) : Type 0 where
 
 -- a gate that calls and has no slip out
 abbrev pub is_waiting : Gate → Bool
-is_waiting g = calling g && not g.slip
+is_waiting g = is_calling g && not g.slip
 
 -- the gate whose status is asked
 abbrev pub IsNamed : State → Whose → ℕ → Type 0
 IsNamed s First k = k ≡ 0
 IsNamed s Second k = k ≡ 1
-IsNamed s Calling k = IsLowest calling s k
+IsNamed s Calling k = IsLowest is_calling s k
 IsNamed s Current k = k ≡ s.current
 
 -- an act at a board in a state makes this entry in the own list of gate k: orders, packets with words and questions belong to the gate
 -- that is current, a status to the gate that is named, a take and a close to the slip's, an UPDATE that is counted to each gate whose
 -- bit is set, resets and cycles to both
-abbrev pub Belongs : ℕ → State → Act → Own → Type 0
-Belongs k s a restart = a ≡ act_reset
-Belongs k s a (tick i) = (left : Inputs) × (right : Inputs) × (a ≡ act_cycle left right) × (i ≡ cond (k == 0) left right)
-Belongs k s a (told o) = (GivesCommand s a (Now o) × (k ≡ s.current)) ⊎ CountsUpdate k s a o
-Belongs k s a (told_word o w) = (a ≡ act_write w) × (s.port ≡ TakingWord o) × (k ≡ s.current)
-Belongs k s a (told_long o high low) = (a ≡ act_write low) × (s.port ≡ TakingLow o high) × (k ≡ s.current)
-Belongs k s a (asked q) = GivesCommand s a (Ask q) × (k ≡ s.current)
-Belongs k s a (viewed w) = GivesCommand s a (Status w) × IsNamed s w k
-Belongs k s a taken = (a ≡ act_take) × IsLowest is_waiting s k
-Belongs k s a (closed w) = (a ≡ act_close k w) × ((gate_of s k).slip ≡ true)
+abbrev pub Belongs : ℕ → State → Act → OwnEntry → Type 0
+Belongs k s a entry_reset = a ≡ act_reset
+Belongs k s a (entry_cycle i) = (one : Inputs) × (two : Inputs) × (a ≡ act_cycle one two) × (i ≡ cond (k == 0) one two)
+Belongs k s a (entry_order o) = (GivesCommand s a (Now o) × (k ≡ s.current)) ⊎ CountsUpdate k s a o
+Belongs k s a (entry_word_order o w) = (a ≡ act_write w) × (s.port ≡ TakingWord o) × (k ≡ s.current)
+Belongs k s a (entry_long_order o high low) = (a ≡ act_write low) × (s.port ≡ TakingLow o high) × (k ≡ s.current)
+Belongs k s a (entry_query q) = GivesCommand s a (Ask q) × (k ≡ s.current)
+Belongs k s a (entry_status w) = GivesCommand s a (Status w) × IsNamed s w k
+Belongs k s a entry_take = (a ≡ act_take) × IsLowest is_waiting s k
+Belongs k s a (entry_close w) = (a ≡ act_close k w) × ((gate_of s k).slip ≡ true)
 
 -- no entry of gate k's own list comes of the act
 abbrev pub IsForeign : ℕ → State → Act → Type 0
-IsForeign k s a = (e : Own) → Belongs k s a e → ⊥
+IsForeign k s a = (e : OwnEntry) → Belongs k s a e → ⊥
 
 -- what comes to the port: a command, a word that is written, a read
 abbrev pub IsAtPort : Act → Type 0
@@ -76,13 +76,13 @@ IsAtPort act_take = ⊥
 IsAtPort (act_close k w) = ⊥
 
 -- which gate is current after an act: gate 1 after a reset, the gate whose status is given, and else the one that was
-pub record Turns (s : State) (a : Act) (z : State) : Type 0 where
+pub record SetsCurrent (s : State) (a : Act) (z : State) : Type 0 where
   pub reset : a ≡ act_reset → z.current ≡ 0
-  pub status : (k : ℕ) → k < 2 → (w : Whose) → Belongs k s a (viewed w) → z.current ≡ k
-  pub stays : a ≢ act_reset → ((k : ℕ) → k < 2 → (w : Whose) → Belongs k s a (viewed w) → ⊥) → z.current ≡ s.current
+  pub status : (k : ℕ) → k < 2 → (w : Whose) → Belongs k s a (entry_status w) → z.current ≡ k
+  pub stays : a ≢ act_reset → ((k : ℕ) → k < 2 → (w : Whose) → Belongs k s a (entry_status w) → ⊥) → z.current ≡ s.current
 
 -- an own list before and after an act: it grows by the entry that belongs to it, and by nothing else
-pub record Enters (k : ℕ) (s : State) (a : Act) (before after : List Own) : Type 0 where
-  pub one : (after ≡ before) ⊎ ((e : Own) × (after ≡ e ∷ before))
-  pub belongs : (e : Own) → after ≡ e ∷ before → Belongs k s a e
-  pub stands : (e : Own) → Belongs k s a e → after ≡ e ∷ before
+pub record GrowsByEntry (k : ℕ) (s : State) (a : Act) (before after : List OwnEntry) : Type 0 where
+  pub one : (after ≡ before) ⊎ ((e : OwnEntry) × (after ≡ e ∷ before))
+  pub belongs : (e : OwnEntry) → after ≡ e ∷ before → Belongs k s a e
+  pub stands : (e : OwnEntry) → Belongs k s a e → after ≡ e ∷ before

@@ -10,17 +10,17 @@ use Rattle.board.specs.declared.port.Step.{Step}
 use Rattle.board.specs.declared.port.Step.TheVariants as step
 use Rattle.board.specs.declared.refusal.Refusal.{Refusal}
 use Rattle.board.specs.declared.refusal.Refusal.TheVariants.{Unknown, PacketOpen, NotTaking, NotGiving}
-use Rattle.board.specs.Commands.{decoded}
+use Rattle.board.specs.Commands.{command_of}
 
 -- the packet that a command opens, if it takes words; a command without words leaves the port idle
-abbrev pub start_next : Option Command → Port
-start_next (Some (Status w)) = Idle
-start_next (Some (Ask q)) = Idle
-start_next (Some (Now o)) = Idle
-start_next (Some (Word o)) = TakingWord o
-start_next (Some (Long o)) = TakingHigh o
-start_next (Some MultiUpdate) = TakingGates
-start_next None = Idle
+abbrev pub port_after_start : Option Command → Port
+port_after_start (Some (Status w)) = Idle
+port_after_start (Some (Ask q)) = Idle
+port_after_start (Some (Now o)) = Idle
+port_after_start (Some (Word o)) = TakingWord o
+port_after_start (Some (Long o)) = TakingHigh o
+port_after_start (Some MultiUpdate) = TakingGates
+port_after_start None = Idle
 
 abbrev pub start_step : Option Command → Result Step Refusal
 start_step (Some (Status w)) = Ok (step.View w)
@@ -31,13 +31,13 @@ start_step (Some (Long o)) = Ok step.Wait
 start_step (Some MultiUpdate) = Ok step.Wait
 start_step None = Err Unknown
 
-abbrev pub command_next : Port → Option Command → Port
-command_next Idle c = start_next c
-command_next (TakingWord o) c = TakingWord o
-command_next (TakingHigh o) c = TakingHigh o
-command_next (TakingLow o high) c = TakingLow o high
-command_next TakingGates c = TakingGates
-command_next (Giving w t) c = Giving w t
+abbrev pub port_after_command : Port → Option Command → Port
+port_after_command Idle c = port_after_start c
+port_after_command (TakingWord o) c = TakingWord o
+port_after_command (TakingHigh o) c = TakingHigh o
+port_after_command (TakingLow o high) c = TakingLow o high
+port_after_command TakingGates c = TakingGates
+port_after_command (Giving w t) c = Giving w t
 
 abbrev pub command_step : Port → Option Command → Result Step Refusal
 command_step Idle c = start_step c
@@ -48,17 +48,17 @@ command_step TakingGates c = Err PacketOpen
 command_step (Giving w t) c = Err PacketOpen
 
 -- what waits behind a word that is given
-abbrev pub next_port : Option ℕ → Port
-next_port (Some w) = Giving w None
-next_port None = Idle
+abbrev pub port_behind : Option ℕ → Port
+port_behind (Some w) = Giving w None
+port_behind None = Idle
 
-abbrev pub write_next : Port → ℕ → Port
-write_next Idle w = Idle
-write_next (TakingWord o) w = Idle
-write_next (TakingHigh o) w = TakingLow o w
-write_next (TakingLow o high) w = Idle
-write_next TakingGates w = Idle
-write_next (Giving a t) w = Giving a t
+abbrev pub port_after_write : Port → ℕ → Port
+port_after_write Idle w = Idle
+port_after_write (TakingWord o) w = Idle
+port_after_write (TakingHigh o) w = TakingLow o w
+port_after_write (TakingLow o high) w = Idle
+port_after_write TakingGates w = Idle
+port_after_write (Giving a t) w = Giving a t
 
 abbrev pub write_step : Port → ℕ → Result Step Refusal
 write_step Idle w = Err NotTaking
@@ -68,13 +68,13 @@ write_step (TakingLow o high) w = Ok (step.Long o high w)
 write_step TakingGates w = Ok (step.Gates w)
 write_step (Giving a t) w = Err NotTaking
 
-abbrev pub read_next : Port → Port
-read_next Idle = Idle
-read_next (TakingWord o) = TakingWord o
-read_next (TakingHigh o) = TakingHigh o
-read_next (TakingLow o high) = TakingLow o high
-read_next TakingGates = TakingGates
-read_next (Giving w t) = next_port t
+abbrev pub port_after_read : Port → Port
+port_after_read Idle = Idle
+port_after_read (TakingWord o) = TakingWord o
+port_after_read (TakingHigh o) = TakingHigh o
+port_after_read (TakingLow o high) = TakingLow o high
+port_after_read TakingGates = TakingGates
+port_after_read (Giving w t) = port_behind t
 
 abbrev pub read_step : Port → Result Step Refusal
 read_step Idle = Err NotGiving
@@ -84,12 +84,12 @@ read_step (TakingLow o high) = Err NotGiving
 read_step TakingGates = Err NotGiving
 read_step (Giving w t) = Ok (step.Give w)
 
-abbrev pub port_next : Port → Incoming → Port
-port_next p (incoming.Command b) = command_next p (decoded b)
-port_next p (incoming.Write w) = write_next p w
-port_next p incoming.Read = read_next p
+abbrev pub port_after_incoming : Port → Incoming → Port
+port_after_incoming p (incoming.Command b) = port_after_command p (command_of b)
+port_after_incoming p (incoming.Write w) = port_after_write p w
+port_after_incoming p incoming.Read = port_after_read p
 
 abbrev pub port_step : Port → Incoming → Result Step Refusal
-port_step p (incoming.Command b) = command_step p (decoded b)
+port_step p (incoming.Command b) = command_step p (command_of b)
 port_step p (incoming.Write w) = write_step p w
 port_step p incoming.Read = read_step p

@@ -4,15 +4,15 @@ use Rattle.gate.specs.declared.orders.OutOfRange.{OutOfRange as Value}
 use Rattle.board.specs.declared.refusal.Refusal.{Refusal}
 use Rattle.board.specs.declared.refusal.Refusal.TheVariants.{Unknown, PacketOpen, NotTaking, NotGiving, OutOfRange, NoCall, NoSlip}
 
-abbrev pub number : Refusal → ℕ
-number Unknown = 1
-number PacketOpen = 2
-number NotTaking = 3
-number NotGiving = 4
-number OutOfRange = 5
-number NoCall = 6
-number NoSlip = 7
+abbrev pub refusal_number : Refusal → ℕ
+refusal_number Unknown = 1
+refusal_number PacketOpen = 2
+refusal_number NotTaking = 3
+refusal_number NotGiving = 4
+refusal_number OutOfRange = 5
+refusal_number NoCall = 6
+refusal_number NoSlip = 7
 
 -- a gate's refusal of a value, as the board's
-abbrev pub Unfit : Value → Refusal → Type 0
-Unfit e r = r ≡ OutOfRange
+abbrev pub GivesOutOfRange : Value → Refusal → Type 0
+GivesOutOfRange e r = r ≡ OutOfRange

@@ -1,4 +1,4 @@
-ghost use Rattle.board.specs.Acts.{Holds, holds_once};
+ghost use Rattle.board.specs.Acts.{HasSoundTable, has_sound_table_once};
 
 use crate::table::Table;
 use stage::Stage;
@@ -13,5 +13,5 @@ pub mod questions;
 pub struct Board<S: Stage + Drop> {
     table: Table,
     stage: S,
-    ghost fit: { Holds table } by { holds_once table },
+    ghost fit: { HasSoundTable table } by { has_sound_table_once table },
 }

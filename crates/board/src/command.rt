@@ -89,7 +89,7 @@ impl TryFrom<u8> for Command {
 
     ghost try_from_gives = { Decodes };
 
-    #[tactic(auto, unfolding(crate::specs::Commands::decoded))]
+    #[tactic(auto, unfolding(crate::specs::Commands::command_of))]
     fn try_from(code: u8) -> Result<Command, Refusal> {
         look_up(code).ok_or(Refusal::Unknown)
     }

@@ -1,12 +1,12 @@
 ghost use Rattle.std.specs.Prelude.{◌≡◌};
-ghost use Rattle.board.specs.Ports.{next_port, port_next, port_step};
+ghost use Rattle.board.specs.Ports.{port_behind, port_after_incoming, port_step};
 
 use crate::command::{Command, Whose};
 use crate::refusal::Refusal;
 use gate::orders::{LongOrder, Order, WordOrder};
 use gate::queries::Query;
 
-// Where the packet stands that is on its way: none, one that takes words, or one that gives them.
+/// Where the packet stands that is on its way: none, one that takes words, or one that gives them.
 #[derive(Clone, Copy)]
 pub enum Port {
     Idle,
@@ -17,7 +17,7 @@ pub enum Port {
     Giving { word: u16, then: Option<u16> },
 }
 
-// What comes to the port.
+/// What comes to the port.
 #[derive(Clone, Copy)]
 pub enum Incoming {
     Command(u8),
@@ -25,7 +25,7 @@ pub enum Incoming {
     Read,
 }
 
-// What is to be done about it; one type for every act, since the port is one match on its state and the act together.
+/// What is to be done about it; one type for every act, since the port is one match on its state and the act together.
 #[derive(Clone, Copy)]
 pub enum Step {
     // the packet waits for a word
@@ -40,10 +40,10 @@ pub enum Step {
 }
 
 impl Port {
-    // Moves the port on by what comes in, or refuses it and stays.
+    /// Moves the port on by what comes in, or refuses it and stays.
     #[inline(always)]
     pub fn step(&mut self, incoming: Incoming) -> Result<Step, Refusal>
-        ensures port { self.new ≡ port_next self.old incoming }
+        ensures port { self.new ≡ port_after_incoming self.old incoming }
         ensures step { result ≡ port_step self.old incoming }
     {
         let (port, step) = match (*self, incoming) {
@@ -78,7 +78,7 @@ impl Port {
 
     // The port once a word is given: the next word waits, or none.
     fn behind(then: Option<u16>) -> Port
-        ensures { result ≡ next_port then }
+        ensures { result ≡ port_behind then }
     {
         match then {
             Some(word) => Port::Giving { word, then: None },

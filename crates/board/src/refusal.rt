@@ -1,5 +1,5 @@
 ghost use Rattle.std.specs.Prelude.{◌≡◌};
-ghost use Rattle.board.specs.Refusals.{number};
+ghost use Rattle.board.specs.Refusals.{refusal_number};
 
 use gate::orders::OutOfRange;
 
@@ -25,16 +25,16 @@ pub enum Refusal {
 impl Refusal {
     /// The number of the refusal, 1 to 7.
     pub fn number(self) -> u8
-        ensures { result ≡ number self }
+        ensures { result ≡ refusal_number self }
     {
         self as u8
     }
 }
 
 impl From<OutOfRange> for Refusal {
-    ghost use Rattle.board.specs.Refusals.{Unfit};
+    ghost use Rattle.board.specs.Refusals.{GivesOutOfRange};
 
-    ghost from_gives = { Unfit };
+    ghost from_gives = { GivesOutOfRange };
 
     fn from(_value: OutOfRange) -> Refusal {
         Refusal::OutOfRange

@@ -1,8 +1,8 @@
 ghost use Rattle.std.specs.Prelude.{◌≡◌, ◌<◌, Bool, cond, Some, None, IfSome};
 ghost use Rattle.std.specs.Fn.{FnReturnsAt};
-ghost use Rattle.gate.specs.Queries.{answered, status_word};
-ghost use Rattle.board.specs.Own.{joined, told, told_word, told_long};
-ghost use Rattle.board.specs.Acts.{state_of, gate_of, caller, lendable, whose, enters, moved, says, heard_done, Fit};
+ghost use Rattle.gate.specs.Queries.{query_answer, status_word};
+ghost use Rattle.board.specs.Own.{join, entry_order, entry_word_order, entry_long_order};
+ghost use Rattle.board.specs.Acts.{state_of, gate_of, caller, lendable, whose, enter, next_state, transition_answer, answer_of_unit, IsSoundTable};
 
 use crate::command::Whose;
 use crate::port::Port;
@@ -11,8 +11,8 @@ use gate::gate::Gate;
 use gate::orders::{LongOrder, Order, WordOrder};
 use gate::queries::Query;
 
-// What a board holds beside its stage. The gates are numbered from 0 here, as in an index and in a status word. The table is plain, so that
-// one record can be lent and changed: a board's type carries the ranges, and here `Fit` stands in each contract.
+/// What a board holds beside its stage. The gates are numbered from 0 here, as in an index and in a status word. The table is plain, so that
+/// one record can be lent and changed: a board's type carries the ranges, and here `IsSoundTable` stands in each contract.
 #[derive(Clone, Copy)]
 pub struct Table {
     pub gates: [Gate; 2],
@@ -22,7 +22,7 @@ pub struct Table {
 
 // A number of two words, the high one first.
 fn join(high: u16, low: u16) -> u32
-    ensures { result ≡ joined high low }
+    ensures { result ≡ join high low }
 {
     u32::from(high) * 65_536 + u32::from(low)
 }
@@ -31,7 +31,9 @@ impl Table {
     // The lowest-numbered gate that passes a test.
     fn first<F: Fn(&Gate) -> bool>(&self, test: F) -> Option<u8>
         requires { F.IsAlwaysCallable test }
-        ensures is { (a : Bool) × (b : Bool) × FnReturnsAt F.Fn test (state_of self.now).one a × FnReturnsAt F.Fn test (state_of self.now).two b × (result ≡ cond a (Some 0) (cond b (Some 1) None)) }
+        ensures is { (a : Bool) × (b : Bool) × FnReturnsAt F.Fn test (state_of self.now).one a ×
+            FnReturnsAt F.Fn test (state_of self.now).two b ×
+            (result ≡ cond a (Some 0) (cond b (Some 1) None)) }
     {
         let (one, two) = (test(&self.gates[0]), test(&self.gates[1]));
         if one {
@@ -71,7 +73,7 @@ impl Table {
     }
 
     pub(crate) fn status(&self, gate: u8) -> u16
-        requires fit { Fit self.now }
+        requires fit { IsSoundTable self.now }
         requires gate { gate < 2 }
         ensures { result ≡ status_word gate (gate_of (state_of self.now) gate) }
     {
@@ -79,25 +81,28 @@ impl Table {
     }
 
     pub(crate) fn ask(&self, query: Query) -> u32
-        requires { Fit self.now }
-        ensures { result ≡ answered query (gate_of (state_of self.now) self.now.current) }
+        requires { IsSoundTable self.now }
+        ensures { result ≡ query_answer query (gate_of (state_of self.now) self.now.current) }
     {
         self.gates[self.current as usize].answer(query)
     }
 
     pub(crate) fn run(&mut self, order: Order)
-        requires { Fit self.old }
-        ensures state { state_of self.new ≡ moved (state_of self.old) (enters self.old.current (told order)) }
-        ensures fit { Fit self.new }
+        requires { IsSoundTable self.old }
+        ensures state { state_of self.new ≡
+            next_state (state_of self.old) (enter self.old.current (entry_order order)) }
+        ensures fit { IsSoundTable self.new }
     {
         self.gates[self.current as usize].run(order);
     }
 
     pub(crate) fn run_word(&mut self, order: WordOrder, word: u16) -> Result<(), Refusal>
-        requires { Fit self.old }
-        ensures answer { heard_done result ≡ says (state_of self.old) (enters self.old.current (told_word order word)) }
-        ensures state { state_of self.new ≡ moved (state_of self.old) (enters self.old.current (told_word order word)) }
-        ensures fit { Fit self.new }
+        requires { IsSoundTable self.old }
+        ensures answer { answer_of_unit result ≡
+            transition_answer (state_of self.old) (enter self.old.current (entry_word_order order word)) }
+        ensures state { state_of self.new ≡
+            next_state (state_of self.old) (enter self.old.current (entry_word_order order word)) }
+        ensures fit { IsSoundTable self.new }
     {
         self.gates[self.current as usize]
             .run_word(order, word)
@@ -105,10 +110,12 @@ impl Table {
     }
 
     pub(crate) fn run_long(&mut self, order: LongOrder, high: u16, low: u16) -> Result<(), Refusal>
-        requires { Fit self.old }
-        ensures answer { heard_done result ≡ says (state_of self.old) (enters self.old.current (told_long order high low)) }
-        ensures state { state_of self.new ≡ moved (state_of self.old) (enters self.old.current (told_long order high low)) }
-        ensures fit { Fit self.new }
+        requires { IsSoundTable self.old }
+        ensures answer { answer_of_unit result ≡
+            transition_answer (state_of self.old) (enter self.old.current (entry_long_order order high low)) }
+        ensures state { state_of self.new ≡
+            next_state (state_of self.old) (enter self.old.current (entry_long_order order high low)) }
+        ensures fit { IsSoundTable self.new }
     {
         let value = join(high, low);
         self.gates[self.current as usize]

@@ -7,20 +7,20 @@ use Rattle.gate.specs.declared.orders.WordOrder.{WordOrder}
 use Rattle.gate.specs.declared.orders.WordOrder.TheVariants as word
 use Rattle.gate.specs.declared.orders.LongOrder.{LongOrder}
 use Rattle.gate.specs.declared.orders.LongOrder.TheVariants as long
-use Rattle.gate.specs.Cycles.{clocked, encoded, tripped}
-use Rattle.gate.specs.Gates.{erred}
-use Rattle.gate.specs.Orders.{ran, word_run, word_fits, long_run, long_fits}
-use Rattle.gate.proofs.Steps.{met_keeps}
+use Rattle.gate.specs.Cycles.{tick, encode, trip}
+use Rattle.gate.specs.Gates.{with_command_error}
+use Rattle.gate.specs.Orders.{run, with_word, word_fits, with_long, long_fits}
+use Rattle.gate.proofs.Steps.{meet_keeps}
 use Rattle.board.specs.declared.slip.Slip.{Slip}
-use Rattle.board.specs.Own.{replay, joined}
+use Rattle.board.specs.Own.{gate_after_list, join}
 use Rattle.board.specs.Ports.{port_step}
 use Rattle.board.specs.declared.port.Incoming.TheVariants as incoming
-use Rattle.board.specs.Acts.{State, Act, act_command, act_write, act_read, act_cycle, act_reset, act_take, act_close, entries, move, after, gate_of}
-use Rattle.board.proofs.Moves.{Ordinary, by_step}
+use Rattle.board.specs.Acts.{State, Act, act_command, act_write, act_read, act_cycle, act_reset, act_take, act_close, entries, transition, state_after_act, gate_of}
+use Rattle.board.proofs.Transitions.{Ordinary, by_step}
 use Rattle.board.proofs.Lists.{after_gate}
 use Rattle.desk.specs.Keeps.{state_keeps}
 
-order_slip : (o : Order) (g : Gate) → (ran o g).slip ≡ g.slip
+order_slip : (o : Order) (g : Gate) → (run o g).slip ≡ g.slip
 order_slip (Mode m) g = refl
 order_slip Stop g = refl
 order_slip Update g = refl
@@ -28,14 +28,14 @@ order_slip (Auto on) g = refl
 order_slip (Break m) g = refl
 order_slip (Motor kind) g = refl
 
-word_slip : (o : WordOrder) (t : Bool) (w : ℕ) (g : Gate) → (cond t (word_run o w g) (erred g)).slip ≡ g.slip
+word_slip : (o : WordOrder) (t : Bool) (w : ℕ) (g : Gate) → (cond t (with_word o w g) (with_command_error g)).slip ≡ g.slip
 word_slip word.BufferedPower true w g = refl
 word_slip word.Power true w g = refl
 word_slip word.Status true w g = refl
 word_slip word.Mask true w g = refl
 word_slip o false w g = refl
 
-long_slip : (o : LongOrder) (t : Bool) (v : ℕ) (g : Gate) → (cond t (long_run o v g) (erred g)).slip ≡ g.slip
+long_slip : (o : LongOrder) (t : Bool) (v : ℕ) (g : Gate) → (cond t (with_long o v g) (with_command_error g)).slip ≡ g.slip
 long_slip long.Destination true v g = refl
 long_slip long.Velocity true v g = refl
 long_slip long.Acceleration true v g = refl
@@ -44,13 +44,13 @@ long_slip long.Actual true v g = refl
 long_slip o false v g = refl
 
 -- an order or a question leaves the mark of its gate
-leaves : (g : Gate) → Ordinary (λ es. (replay es g).slip ≡ g.slip)
+leaves : (g : Gate) → Ordinary (λ es. (gate_after_list es g).slip ≡ g.slip)
 leaves g =
     record {
       none = refl;
       orders = λ o. order_slip o g;
       words = λ o w. word_slip o (word_fits o w) w g;
-      longs = λ o high low. long_slip o (long_fits o (joined high low)) (joined high low) g;
+      longs = λ o high low. long_slip o (long_fits o (join high low)) (join high low) g;
       asks = λ _. refl;
       views = λ _. refl;
     }
@@ -65,23 +65,24 @@ plain act_reset = true
 plain act_take = false
 plain (act_close k w) = false
 
-act_slip : (k : ℕ) (s : State) (a : Act) (g : Gate) → plain a ≡ true → (replay (entries k (move s a)) g).slip ≡ g.slip
+act_slip : (k : ℕ) (s : State) (a : Act) (g : Gate) → plain a ≡ true → (gate_after_list (entries k (transition s a)) g).slip ≡ g.slip
 act_slip k s (act_command b) g h = by_step (leaves g) k s (port_step s.port (incoming.Command b))
 act_slip k s (act_write w) g h = by_step (leaves g) k s (port_step s.port (incoming.Write w))
 act_slip k s act_read g h = by_step (leaves g) k s (port_step s.port incoming.Read)
 act_slip k s (act_cycle i j) g h =
     let inputs = cond (eqb k 0) i j in
-    met_keeps (λ x. x.slip) inputs.home (tripped inputs (encoded inputs.count (clocked g))) refl refl
+    meet_keeps (λ x. x.slip) inputs.home (trip inputs (encode inputs.count (tick g))) refl refl
 act_slip k s act_reset g h = refl
 act_slip k s act_take g h = cc
 act_slip k s (act_close j w) g h = cc
 
 -- so they leave each gate's mark
-act_mark : (k : ℕ) (s : State) (a : Act) → k < 2 → plain a ≡ true → (gate_of (after s a) k).slip ≡ (gate_of s k).slip
+act_mark : (k : ℕ) (s : State) (a : Act) → k < 2 → plain a ≡ true → (gate_of (state_after_act s a) k).slip ≡ (gate_of s k).slip
 act_mark k s a l h = ap (λ x. x.slip) (after_gate s a k l) ∙ act_slip k s a (gate_of s k) h
 
 -- the slips that are kept stay the right ones
-pub still_keeps : (s z : State) (a : Act) (first second : Option Slip) → plain a ≡ true → z ≡ after s a → state_keeps s first second ≡ true → state_keeps z first second ≡ true
+pub still_keeps : (s z : State) (a : Act) (first second : Option Slip) → plain a ≡ true → z ≡ state_after_act s a
+    → state_keeps s first second ≡ true → state_keeps z first second ≡ true
 still_keeps s z a first second p e h =
     let one : z.one.slip ≡ s.one.slip = ap (λ x. x.one.slip) e ∙ act_mark 0 s a (lit< tt) p in
     let two : z.two.slip ≡ s.two.slip = ap (λ x. x.two.slip) e ∙ act_mark 1 s a (lit< tt) p in

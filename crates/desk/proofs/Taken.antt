@@ -1,12 +1,12 @@
 -- Where the slip of a take is kept.
 use Rattle.std.proofs.Common.{◌≡◌, ℕ, Bool, true, false, cond, not, ◌&&◌, eqb, Some, None, Option, sym, refl, ap, ◌∙◌}
-use Rattle.gate.specs.Queries.{calling}
+use Rattle.gate.specs.Queries.{is_calling}
 use Rattle.board.specs.declared.slip.Slip.{Slip}
 use Rattle.board.specs.declared.refusal.Refusal.{Refusal}
-use Rattle.board.specs.Own.{taken, slipped, refused}
-use Rattle.board.specs.Acts.{State, enters, enters_if, moved, after, answer, act_take}
+use Rattle.board.specs.Own.{entry_take, answer_slip, answer_refused}
+use Rattle.board.specs.Acts.{State, enter, entry_transition, next_state, state_after_act, answer, act_take}
 use Rattle.board.proofs.Slips.{taken_gate, taken_none}
-use Rattle.desk.specs.Keeps.{held_for, state_keeps}
+use Rattle.desk.specs.Keeps.{is_kept_while_out, state_keeps}
 
 -- a gate that a slip is lent for has none out
 lent_one : (a p b q : Bool) → ◌≡◌ {A = Option ℕ} (Some 0) (cond (a && not p) (Some 0) (cond (b && not q) (Some 1) None)) → p ≡ false
@@ -26,7 +26,7 @@ lent_two true false b true h = cc
 lent_two false p true true h = cc
 lent_two false p false true h = cc
 
-none_held : (k : ℕ) (o : Option Slip) (out : Bool) → held_for k o out ≡ true → out ≡ false → o ≡ None
+none_held : (k : ℕ) (o : Option Slip) (out : Bool) → is_kept_while_out k o out ≡ true → out ≡ false → o ≡ None
 none_held k None out h e = refl
 none_held k (Some s) true h e = cc
 none_held k (Some s) false h e = let no = and_false (eqb s.gate k) in cc
@@ -44,25 +44,29 @@ snd true b h = h
 snd false b h = cc
 
 module _ (s : State) (first second : Option Slip) (h : state_keeps s first second ≡ true) where
-  pub first_none : slipped 0 ≡ answer s act_take → first ≡ None
+  pub first_none : answer_slip 0 ≡ answer s act_take → first ≡ None
   first_none t =
-      none_held 0 first s.one.slip (fst _ _ h) (lent_one (calling s.one) s.one.slip (calling s.two) s.two.slip (taken_gate s 0 t))
+      none_held 0 first s.one.slip (fst _ _ h) (lent_one (is_calling s.one) s.one.slip (is_calling s.two) s.two.slip (taken_gate s 0 t))
 
-  pub second_none : slipped 1 ≡ answer s act_take → second ≡ None
+  pub second_none : answer_slip 1 ≡ answer s act_take → second ≡ None
   second_none t =
-      none_held 1 second s.two.slip (snd _ _ h) (lent_two (calling s.one) s.one.slip (calling s.two) s.two.slip (taken_gate s 1 t))
+      none_held 1 second s.two.slip (snd _ _ h) (lent_two (is_calling s.one) s.one.slip (is_calling s.two) s.two.slip (taken_gate s 1 t))
 
-  pub keeps_first : (z : State) (slip : Slip) → slip.gate ≡ 0 → slipped 0 ≡ answer s act_take → z ≡ after s act_take → state_keeps z (Some slip) second ≡ true
+  pub keeps_first : (z : State) (slip : Slip) → slip.gate ≡ 0 → answer_slip 0 ≡ answer s act_take → z ≡ state_after_act s act_take
+      → state_keeps z (Some slip) second ≡ true
   keeps_first z slip g t e =
-      let state : z ≡ moved s (enters 0 taken) = e ∙ sym (ap (λ o. moved s (enters_if o taken)) (taken_gate s 0 t)) in
-      let is : state_keeps z (Some slip) second ≡ (eqb 0 0 && true && held_for 1 second s.two.slip) = ap (λ x. state_keeps x (Some slip) second) state ∙ ap (λ n. eqb n 0 && true && held_for 1 second s.two.slip) g in
+      let state : z ≡ next_state s (enter 0 entry_take) = e ∙ sym (ap (λ o. next_state s (entry_transition o entry_take)) (taken_gate s 0 t)) in
+      let is : state_keeps z (Some slip) second ≡ (eqb 0 0 && true && is_kept_while_out 1 second s.two.slip) = ap (λ x. state_keeps x (Some slip) second) state ∙ ap (λ n. eqb n 0 && true && is_kept_while_out 1 second s.two.slip) g in
       is ∙ snd _ _ h
 
-  pub keeps_second : (z : State) (slip : Slip) → slip.gate ≡ 1 → slipped 1 ≡ answer s act_take → z ≡ after s act_take → state_keeps z first (Some slip) ≡ true
+  pub keeps_second : (z : State) (slip : Slip) → slip.gate ≡ 1 → answer_slip 1 ≡ answer s act_take → z ≡ state_after_act s act_take
+      → state_keeps z first (Some slip) ≡ true
   keeps_second z slip g t e =
-      let state : z ≡ moved s (enters 1 taken) = e ∙ sym (ap (λ o. moved s (enters_if o taken)) (taken_gate s 1 t)) in
-      let is : state_keeps z first (Some slip) ≡ (held_for 0 first s.one.slip && (eqb 1 1 && true)) = ap (λ x. state_keeps x first (Some slip)) state ∙ ap (λ n. held_for 0 first s.one.slip && (eqb n 1 && true)) g in
+      let state : z ≡ next_state s (enter 1 entry_take) = e ∙ sym (ap (λ o. next_state s (entry_transition o entry_take)) (taken_gate s 1 t)) in
+      let is : state_keeps z first (Some slip) ≡ (is_kept_while_out 0 first s.one.slip && (eqb 1 1 && true)) = ap (λ x. state_keeps x first (Some slip)) state ∙ ap (λ n. is_kept_while_out 0 first s.one.slip && (eqb n 1 && true)) g in
       is ∙ ap (λ b. b && true) (fst _ _ h)
 
-  pub keeps_none : (z : State) (e : Refusal) → refused e ≡ answer s act_take → z ≡ after s act_take → state_keeps z first second ≡ true
-  keeps_none z e t i = ap (λ x. state_keeps x first second) (i ∙ ap (λ o. moved s (enters_if o taken)) (taken_none s e t)) ∙ h
+  pub keeps_none : (z : State) (e : Refusal) → answer_refused e ≡ answer s act_take → z ≡ state_after_act s act_take
+      → state_keeps z first second ≡ true
+  keeps_none z e t i =
+      ap (λ x. state_keeps x first second) (i ∙ ap (λ o. next_state s (entry_transition o entry_take)) (taken_none s e t)) ∙ h

@@ -6,12 +6,12 @@ use Rattle.board.specs.declared.slip.Slip.{Slip}
 use Rattle.board.specs.Acts.{State, state_of}
 
 -- a slip of gate k is kept just while that gate's slip is out
-abbrev pub held_for : ℕ → Option Slip → Bool → Bool
-held_for k (Some s) out = s.gate == k && out
-held_for k None out = not out
+abbrev pub is_kept_while_out : ℕ → Option Slip → Bool → Bool
+is_kept_while_out k (Some s) out = s.gate == k && out
+is_kept_while_out k None out = not out
 
 abbrev pub state_keeps : State → Option Slip → Option Slip → Bool
-state_keeps s first second = held_for 0 first s.one.slip && held_for 1 second s.two.slip
+state_keeps s first second = is_kept_while_out 0 first s.one.slip && is_kept_while_out 1 second s.two.slip
 
 abbrev pub keeps : {S : Type 0} {m : Ghosts S} → Board S m → Option Slip → Option Slip → Bool
 keeps b first second = state_keeps (state_of b.table) first second

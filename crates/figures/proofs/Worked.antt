@@ -1,16 +1,16 @@
 -- The worked figures hold, by computation.
 use mathlib.Core.Path.{refl}
 use Rattle.wave.specs.Wave.{wave}
-use Rattle.stage.specs.Cut.{cut}
-use Rattle.motion.specs.Reach.{falling, reach}
+use Rattle.stage.specs.Quantize.{quantize}
+use Rattle.motion.specs.StoppingDistance.{falling_sum, stopping_distance}
 use Rattle.motion.specs.Speed.{largest}
-use Rattle.motion.specs.Course.{toward, halts, pace, along, trapezoid, cruise}
-use Rattle.motion.specs.Course.{wrap, wraps, advanced, crosses, whole_steps, distance_to, counted}
-use Rattle.board.specs.Commands.{decoded}
-use Rattle.figures.specs.Figures.{All, figures}
+use Rattle.motion.specs.Course.{toward, must_decelerate, next_speed, along, trapezoid, cruise}
+use Rattle.motion.specs.Course.{wrapped, wraps, advanced, crosses, microsteps, distance_to, counted}
+use Rattle.board.specs.Commands.{command_of}
+use Rattle.figures.specs.Figures.{FiguresHold, figures}
 
-pub worked : All figures
-unfolding wave cut falling reach largest toward halts pace along trapezoid cruise wrap wraps advanced crosses
-    whole_steps distance_to counted decoded
+pub worked : FiguresHold figures
+unfolding wave quantize falling_sum stopping_distance largest toward must_decelerate next_speed along trapezoid cruise wrapped wraps advanced crosses
+    microsteps distance_to counted command_of
 worked =
     (refl, (refl, (refl, (refl, (refl, (refl, (refl, ((λ p. refl), ((λ p. refl), ((λ p. refl), (refl, (refl, (refl, (refl, tt))))))))))))))

@@ -1,14 +1,14 @@
 ghost use Rattle.std.specs.Prelude.{◌≡◌, min, max};
-ghost use Rattle.stage.specs.Cut.{cut};
-ghost use Rattle.stage.specs.Pairs.{dark};
+ghost use Rattle.stage.specs.Quantize.{quantize};
+ghost use Rattle.stage.specs.Pairs.{zero_pairs};
 ghost use Rattle.foreign.specs.Plates.{plate_pairs};
 ghost use Rattle.std.proofs.Common.{rules};
 
 use stage::Stage;
-use stage::cut::cut;
+use stage::quantize::quantize;
 
-// A stage that keeps its numbers as they are shown, in multiples of its step: of N, but at least of 1 and at most of 128. It is
-// no form of the crate `stage`, since this crate is there to try a make that implements `Stage` itself.
+/// A stage that keeps its numbers as they are shown, in multiples of its step: of N, but at least of 1 and at most of 128. It is
+/// no form of the crate `stage`, since this crate is there to try a make that implements `Stage` itself.
 #[derive(Clone, Copy)]
 pub struct Plate<const N: u8> {
     one: (i16, i16),
@@ -16,14 +16,14 @@ pub struct Plate<const N: u8> {
 }
 
 fn kept(step: u8, x: i32) -> i16
-    ensures { result ≡ cut step x }
+    ensures { result ≡ quantize step x }
 {
-    cut(step, x) as i16
+    quantize(step, x) as i16
 }
 
 impl<const N: u8> Plate<N> {
     pub fn new() -> Plate<N>
-        ensures { plate_pairs result.one result.two ≡ dark }
+        ensures { plate_pairs result.one result.two ≡ zero_pairs }
     {
         Plate {
             one: (0, 0),

@@ -2,8 +2,8 @@
 use Rattle.std.specs.Prelude.{ℕ, ◌+◌, ◌%◌, ◌^◌}
 use Rattle.gate.specs.declared.clock.Clock.{Clock}
 
-abbrev pub ticked : Clock → Clock
-ticked c = record { cycles = (c.cycles + 1) % 2 ^ 32 }
+abbrev pub clock_tick : Clock → Clock
+clock_tick c = record { cycles = (c.cycles + 1) % 2 ^ 32 }
 
 -- what is read of it, and what a breakpoint compares
 abbrev pub time : Clock → ℕ

@@ -2,7 +2,7 @@
 use Rattle.std.specs.Prelude.{ℕ, Bool, true, false, cond, not, ◌&&◌, ◌||◌, ℤ, pos, ◌==◌, int_le, unsigned_abs}
 use Rattle.std.specs.Int.{w32}
 use Rattle.std.proofs.Common.{to_z}
-use Rattle.motion.specs.Course.{advanced, counted, crosses, cruise, distance_to, trapezoid, whole_steps}
+use Rattle.motion.specs.Course.{advanced, counted, crosses, cruise, distance_to, trapezoid, microsteps}
 use Rattle.wave.specs.Phases.{phases}
 use Rattle.gate.specs.declared.breakpoint.BreakMode.{BreakMode}
 use Rattle.gate.specs.declared.breakpoint.BreakMode.TheVariants.{Off, Time, TargetAbove, TargetBelow, ActualAbove, ActualBelow, Complete, External}
@@ -11,26 +11,26 @@ use Rattle.gate.specs.declared.gate.Gate.{Gate}
 use Rattle.gate.specs.declared.inputs.Inputs.{Inputs}
 use Rattle.gate.specs.declared.profile.ProfileMode.{ProfileMode}
 use Rattle.gate.specs.declared.profile.ProfileMode.TheVariants.{Trapezoidal, Velocity}
-use Rattle.gate.specs.Clock.{ticked, time}
-use Rattle.gate.specs.Gates.{latched, limited, stopped, with_actual, with_clock}
+use Rattle.gate.specs.Clock.{clock_tick, time}
+use Rattle.gate.specs.Gates.{latch, has_limit_bit, halted_motion, with_actual, with_clock}
 
 -- 1. the clock counts the cycle
-abbrev pub clocked : Gate → Gate
-clocked g = with_clock g (ticked g.clock)
+abbrev pub tick : Gate → Gate
+tick g = with_clock g (clock_tick g.clock)
 
 -- 2. the encoder's count is added
-abbrev pub encoded : ℤ → Gate → Gate
-encoded count g = with_actual g (counted g.actual count)
+abbrev pub encode : ℤ → Gate → Gate
+encode count g = with_actual g (counted g.actual count)
 
 -- 3. a limit trips: its input is active, its detector armed and no limit bit set
 abbrev pub trips : Bool → Bool → Events → Bool
-trips input armed e = input && armed && not (limited e)
+trips input armed e = input && armed && not (has_limit_bit e)
 
 -- the gate after the positive and the negative limit tripped or not
-abbrev pub limits : Bool → Bool → Inputs → Gate → Gate
-limits p n i g =
+abbrev pub with_limits : Bool → Bool → Inputs → Gate → Gate
+with_limits p n i g =
     record g {
-      motion = cond (p || n) (stopped g.motion) g.motion;
+      motion = cond (p || n) (halted_motion g.motion) g.motion;
       events = record g.events { positive = g.events.positive || p; negative = g.events.negative || n };
       detectors = record {
         positive = not i.positive || (g.detectors.positive && not p);
@@ -39,52 +39,54 @@ limits p n i g =
     }
 
 -- the positive limit is tried first
-abbrev pub tripped : Inputs → Gate → Gate
-tripped i g =
-    limits (trips i.positive g.detectors.positive g.events)
+abbrev pub trip : Inputs → Gate → Gate
+trip i g =
+    with_limits (trips i.positive g.detectors.positive g.events)
     (not (trips i.positive g.detectors.positive g.events) && trips i.negative g.detectors.negative g.events) i g
 
 -- 4. whether a breakpoint's condition holds: by its point, the time, the target and the actual position, which compare signed,
 -- the motion complete bit and the home switch
-abbrev pub holds : BreakMode → ℕ → ℕ → ℤ → ℤ → Bool → Bool → Bool
-holds Off point t target actual complete home = false
-holds Time point t target actual complete home = t == point
-holds TargetAbove point t target actual complete home = int_le (to_z w32 point) target
-holds TargetBelow point t target actual complete home = int_le target (to_z w32 point)
-holds ActualAbove point t target actual complete home = int_le (to_z w32 point) actual
-holds ActualBelow point t target actual complete home = int_le actual (to_z w32 point)
-holds Complete point t target actual complete home = complete
-holds External point t target actual complete home = home
+abbrev pub condition_holds : BreakMode → ℕ → ℕ → ℤ → ℤ → Bool → Bool → Bool
+condition_holds Off point t target actual complete home = false
+condition_holds Time point t target actual complete home = t == point
+condition_holds TargetAbove point t target actual complete home = int_le (to_z w32 point) target
+condition_holds TargetBelow point t target actual complete home = int_le target (to_z w32 point)
+condition_holds ActualAbove point t target actual complete home = int_le (to_z w32 point) actual
+condition_holds ActualBelow point t target actual complete home = int_le actual (to_z w32 point)
+condition_holds Complete point t target actual complete home = complete
+condition_holds External point t target actual complete home = home
 
 abbrev pub meets : Bool → Gate → Bool
-meets home g = holds g.breakpoint.mode g.breakpoint.point (time g.clock) (whole_steps g.motion.target) g.actual g.events.complete home
+meets home g =
+    condition_holds g.breakpoint.mode g.breakpoint.point (time g.clock) (microsteps g.motion.target) g.actual g.events.complete home
 
 -- the mode is off, and the bit set
-abbrev pub marked : Gate → Gate
-marked g =
+abbrev pub with_breakpoint_reached : Gate → Gate
+with_breakpoint_reached g =
     record g { breakpoint = record g.breakpoint { mode = Off }; events = record g.events { reached = true } }
 
-abbrev pub met : Bool → Gate → Gate
-met home g = cond (meets home g) (cond g.breakpoint.auto (latched (marked g)) (marked g)) g
+abbrev pub meet : Bool → Gate → Gate
+meet home g = cond (meets home g) (cond g.breakpoint.auto (latch (with_breakpoint_reached g)) (with_breakpoint_reached g)) g
 
 -- 5. the new velocity
-abbrev pub paced : ProfileMode → Gate → ℤ
-paced Velocity g = cruise g.motion.velocity g.active.velocity g.active.acceleration
-paced Trapezoidal g = trapezoid g.motion.velocity g.active.velocity (unsigned_abs g.active.acceleration) (distance_to g.active.destination g.motion.target)
+abbrev pub profile_velocity : ProfileMode → Gate → ℤ
+profile_velocity Velocity g = cruise g.motion.velocity g.active.velocity g.active.acceleration
+profile_velocity Trapezoidal g =
+    trapezoid g.motion.velocity g.active.velocity (unsigned_abs g.active.acceleration) (distance_to g.active.destination g.motion.target)
 
 abbrev pub next_velocity : Gate → ℤ
-next_velocity g = cond g.motion.halted (pos 0) (paced g.active.mode g)
+next_velocity g = cond g.motion.halted (pos 0) (profile_velocity g.active.mode g)
 
 -- the move by a velocity
-abbrev pub moved_by : ℤ → Gate → Gate
-moved_by v g =
+abbrev pub advance_by : ℤ → Gate → Gate
+advance_by v g =
     record g {
       motion = record g.motion { target = advanced g.motion.target v; velocity = v };
       events = record g.events { wrapped = g.events.wrapped || crosses g.motion.target v };
     }
 
-abbrev pub moved : Gate → Gate
-moved g = moved_by (next_velocity g) g
+abbrev pub advance : Gate → Gate
+advance g = advance_by (next_velocity g) g
 
 -- 6. nothing is left to travel: in trapezoidal mode only
 abbrev pub arrived : ProfileMode → Gate → Bool
@@ -95,17 +97,17 @@ abbrev pub at_rest : Gate → Bool
 at_rest g = unsigned_abs g.motion.velocity == 0 && (g.motion.halted || (g.active.velocity == 0 || arrived g.active.mode g))
 
 -- motion complete is set where the gate comes to rest
-abbrev pub settled : Gate → Gate
-settled g =
+abbrev pub settle : Gate → Gate
+settle g =
     record g {
       motion = record g.motion { rested = at_rest g };
       events = record g.events { complete = g.events.complete || (at_rest g && not g.motion.rested) };
     }
 
 -- the steps in their order
-abbrev pub cycled : Inputs → Gate → Gate
-cycled i g = settled (moved (met i.home (tripped i (encoded i.count (clocked g)))))
+abbrev pub cycle : Inputs → Gate → Gate
+cycle i g = settle (advance (meet i.home (trip i (encode i.count (tick g)))))
 
 -- 7. the phases to show
-abbrev pub shows : Gate → ℤ × ℤ
-shows g = phases g.kind g.powers.active (whole_steps g.motion.target)
+abbrev pub gate_phases : Gate → ℤ × ℤ
+gate_phases g = phases g.kind g.powers.active (microsteps g.motion.target)

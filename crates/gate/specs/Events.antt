@@ -35,8 +35,8 @@ events_word e =
     + weight e.positive (place PositiveLimit) + weight e.negative (place NegativeLimit) + weight e.error (place CommandError)
 
 -- the bits whose places hold 0 in the word are cleared
-abbrev pub kept : ℕ → Events → Events
-kept word e =
+abbrev pub keep : ℕ → Events → Events
+keep word e =
     record {
       complete = e.complete && bit word (place MotionComplete);
       wrapped = e.wrapped && bit word (place WrapAround);

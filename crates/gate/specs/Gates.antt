@@ -76,26 +76,26 @@ abbrev pub with_power : ℕ → Gate → Gate
 with_power x g = record g { powers = record g.powers { buffered = x } }
 
 -- a limit bit is set
-abbrev pub limited : Events → Bool
-limited e = e.positive || e.negative
+abbrev pub has_limit_bit : Events → Bool
+has_limit_bit e = e.positive || e.negative
 
 -- every buffered register is copied into its active one, and a halt ends unless a limit bit is set
-abbrev pub latched : Gate → Gate
-latched g =
+abbrev pub latch : Gate → Gate
+latch g =
     record g {
       active = g.buffered;
       powers = record g.powers { active = g.powers.buffered };
-      motion = record g.motion { halted = g.motion.halted && limited g.events };
+      motion = record g.motion { halted = g.motion.halted && has_limit_bit g.events };
     }
 
 -- halted: the velocity is 0, and the gate stays where it is
-abbrev pub stopped : Motion → Motion
-stopped m = record m { velocity = pos 0; halted = true }
+abbrev pub halted_motion : Motion → Motion
+halted_motion m = record m { velocity = pos 0; halted = true }
 
 -- target and actual position are set, and the gate halts there
-abbrev pub placed : ℤ → Gate → Gate
-placed x g = record g { actual = x; motion = stopped (record g.motion { target = pos 65536 *ℤ x }) }
+abbrev pub gate_halted_at : ℤ → Gate → Gate
+gate_halted_at x g = record g { actual = x; motion = halted_motion (record g.motion { target = pos 65536 *ℤ x }) }
 
 -- the command error bit is set
-abbrev pub erred : Gate → Gate
-erred g = record g { events = record g.events { error = true } }
+abbrev pub with_command_error : Gate → Gate
+with_command_error g = record g { events = record g.events { error = true } }

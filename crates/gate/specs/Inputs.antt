@@ -3,5 +3,5 @@ use Rattle.std.specs.Prelude.{pos, false}
 use Rattle.gate.specs.declared.inputs.Inputs.{Inputs}
 
 -- nothing is counted, and no switch is active
-abbrev pub still : Inputs
-still = record { count = pos 0; positive = false; negative = false; home = false }
+abbrev pub still_inputs : Inputs
+still_inputs = record { count = pos 0; positive = false; negative = false; home = false }

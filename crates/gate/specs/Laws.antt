@@ -1,30 +1,31 @@
 -- Laws of a gate, above the definitions of what is done to it.
 use Rattle.std.specs.Prelude.{◌≡◌, ℕ, ◌≤◌, max, Bool, true, false, not, ◌&&◌, ◌||◌, ◌-ℤ◌, unsigned_abs}
-use Rattle.motion.specs.Course.{advanced, counted, crosses, whole_steps}
+use Rattle.motion.specs.Course.{advanced, counted, crosses, microsteps}
 use Rattle.gate.specs.declared.gate.Gate.{Gate}
 use Rattle.gate.specs.declared.inputs.Inputs.{Inputs}
 use Rattle.gate.specs.declared.load.Load.{Load}
 use Rattle.gate.specs.declared.load.Load.TheVariants as load
 use Rattle.gate.specs.declared.queries.Query.{Query}
 use Rattle.gate.specs.declared.queries.Query.TheVariants.{Position, Velocity, Acceleration, TargetPosition, TargetVelocity, ActualPosition, CycleTime}
-use Rattle.gate.specs.Clock.{ticked, time}
-use Rattle.gate.specs.Cycles.{at_rest, holds, shows, trips}
-use Rattle.gate.specs.Queries.{answered, calling, status_word}
+use Rattle.gate.specs.Clock.{clock_tick, time}
+use Rattle.gate.specs.Cycles.{at_rest, condition_holds, gate_phases, trips}
+use Rattle.gate.specs.Queries.{query_answer, is_calling, status_word}
 
 -- a gate never runs faster than it did or than its velocity register says, and unless it halts its velocity changes by at most the
 -- acceleration; the registers are those that the move went by
-pub record Paced (g h : Gate) : Type 0 where
+pub record RespectsProfile (g h : Gate) : Type 0 where
   pub size : unsigned_abs h.motion.velocity ≤ max (unsigned_abs g.motion.velocity) h.active.velocity
   pub step : h.motion.halted ≡ false → unsigned_abs (h.motion.velocity -ℤ g.motion.velocity) ≤ unsigned_abs h.active.acceleration
 
 -- the order of a cycle's steps, by what each sees
-pub record Ordered (i : Inputs) (g h : Gate) : Type 0 where
+pub record StepsInOrder (i : Inputs) (g h : Gate) : Type 0 where
   -- a limit looks at the bits and detectors as they stood, and the positive one goes first
   pub limits : h.events.positive ≡ (g.events.positive || trips i.positive g.detectors.positive g.events)
   -- a breakpoint sees the time and the count of this cycle, and the target position before the move
   pub breaks :
       h.events.reached
-      ≡ (g.events.reached || holds g.breakpoint.mode g.breakpoint.point (time (ticked g.clock)) (whole_steps g.motion.target) (counted g.actual i.count) g.events.complete i.home)
+      ≡ (g.events.reached || condition_holds g.breakpoint.mode g.breakpoint.point (time (clock_tick g.clock)) (microsteps g.motion.target)
+      (counted g.actual i.count) g.events.complete i.home)
   -- the target moves by the new velocity, and that move alone wraps
   pub moves : h.motion.target ≡ advanced g.motion.target h.motion.velocity
   pub wraps : h.events.wrapped ≡ (g.events.wrapped || crosses g.motion.target h.motion.velocity)
@@ -33,11 +34,11 @@ pub record Ordered (i : Inputs) (g h : Gate) : Type 0 where
   pub completes : h.events.complete ≡ (g.events.complete || (at_rest h && not g.motion.rested))
 
 -- between g and h no question answers otherwise but those that `asks` names
-pub record Quiet (asks : Query → Bool) (g h : Gate) : Type 0 where
-  pub answers : (q : Query) → asks q ≡ false → answered q h ≡ answered q g
+pub record SameAnswersBut (asks : Query → Bool) (g h : Gate) : Type 0 where
+  pub answers : (q : Query) → asks q ≡ false → query_answer q h ≡ query_answer q g
   pub status : (axis : ℕ) → status_word axis h ≡ status_word axis g
-  pub calls : calling h ≡ calling g
-  pub phases : shows h ≡ shows g
+  pub calls : is_calling h ≡ is_calling g
+  pub phases : gate_phases h ≡ gate_phases g
 
 abbrev pub is_position : Query → Bool
 is_position Position = true

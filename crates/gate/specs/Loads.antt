@@ -6,21 +6,21 @@ use Rattle.gate.specs.declared.load.Load.TheVariants.{Destination, Velocity, Acc
 use Rattle.gate.specs.Gates.{with_acceleration, with_destination, with_mode, with_power, with_velocity}
 
 -- positions and accelerations run from −2^30 to 2^30 − 1
-abbrev pub in_range : ℤ → Bool
-in_range z = int_le (neg_ℤ (pos (2 ^ 30))) z && int_lt z (pos (2 ^ 30))
+abbrev pub is_in_signed_range : ℤ → Bool
+is_in_signed_range z = int_le (neg_ℤ (pos (2 ^ 30))) z && int_lt z (pos (2 ^ 30))
 
 -- the value is in its register's range: velocities run from 0 to 2^30 − 1, powers to 32,767, and no acceleration is 0
 abbrev pub load_fits : Load → Bool
-load_fits (Destination x) = in_range x
+load_fits (Destination x) = is_in_signed_range x
 load_fits (Velocity x) = nat_lt x (2 ^ 30)
-load_fits (Acceleration x) = not (unsigned_abs x == 0) && in_range x
+load_fits (Acceleration x) = not (unsigned_abs x == 0) && is_in_signed_range x
 load_fits (Mode m) = true
 load_fits (Power x) = nat_le x 32767
 
 -- the gate with that register loaded
-abbrev pub loaded : Load → Gate → Gate
-loaded (Destination x) g = with_destination x g
-loaded (Velocity x) g = with_velocity x g
-loaded (Acceleration x) g = with_acceleration x g
-loaded (Mode m) g = with_mode m g
-loaded (Power x) g = with_power x g
+abbrev pub with_load : Load → Gate → Gate
+with_load (Destination x) g = with_destination x g
+with_load (Velocity x) g = with_velocity x g
+with_load (Acceleration x) g = with_acceleration x g
+with_load (Mode m) g = with_mode m g
+with_load (Power x) g = with_power x g

@@ -12,21 +12,21 @@ use Rattle.gate.specs.declared.orders.WordOrder.TheVariants as word
 use Rattle.gate.specs.declared.orders.LongOrder.{LongOrder}
 use Rattle.gate.specs.declared.orders.LongOrder.TheVariants as long
 use Rattle.gate.specs.declared.orders.OutOfRange.{OutOfRange}
-use Rattle.gate.specs.Events.{kept}
-use Rattle.gate.specs.Gates.{erred, latched, placed, with_breakpoint, with_events, with_kind, with_mask, with_powers}
-use Rattle.gate.specs.Loads.{in_range, load_fits, loaded}
+use Rattle.gate.specs.Events.{keep}
+use Rattle.gate.specs.Gates.{with_command_error, latch, gate_halted_at, with_breakpoint, with_events, with_kind, with_mask, with_powers}
+use Rattle.gate.specs.Loads.{is_in_signed_range, load_fits, with_load}
 
-abbrev pub ran : Order → Gate → Gate
-ran (Mode m) g = loaded (load.Mode m) g
-ran Stop g = loaded (load.Velocity 0) g
-ran Update g = latched g
-ran (Auto on) g = with_breakpoint g (record g.breakpoint { auto = on })
-ran (Break m) g = with_breakpoint g (record g.breakpoint { mode = m })
-ran (Motor kind) g = with_kind g kind
+abbrev pub run : Order → Gate → Gate
+run (Mode m) g = with_load (load.Mode m) g
+run Stop g = with_load (load.Velocity 0) g
+run Update g = latch g
+run (Auto on) g = with_breakpoint g (record g.breakpoint { auto = on })
+run (Break m) g = with_breakpoint g (record g.breakpoint { mode = m })
+run (Motor kind) g = with_kind g kind
 
 -- a value if it fits, and the refusal if not
-abbrev pub checked : {A : Type 0} → Bool → A → Result A OutOfRange
-checked fits x = cond fits (Ok x) (Err (record {}))
+abbrev pub value_if_fits : {A : Type 0} → Bool → A → Result A OutOfRange
+value_if_fits fits x = cond fits (Ok x) (Err (record {}))
 
 -- a power has its register's range; any word clears, and any word masks
 abbrev pub word_fits : WordOrder → ℕ → Bool
@@ -35,17 +35,17 @@ word_fits word.Power w = load_fits (load.Power w)
 word_fits word.Status w = true
 word_fits word.Mask w = true
 
-abbrev pub word_run : WordOrder → ℕ → Gate → Gate
-word_run word.BufferedPower w g = loaded (load.Power w) g
-word_run word.Power w g = with_powers g (record { buffered = w; active = w })
-word_run word.Status w g = with_events g (kept w g.events)
-word_run word.Mask w g = with_mask g w
+abbrev pub with_word : WordOrder → ℕ → Gate → Gate
+with_word word.BufferedPower w g = with_load (load.Power w) g
+with_word word.Power w g = with_powers g (record { buffered = w; active = w })
+with_word word.Status w g = with_events g (keep w g.events)
+with_word word.Mask w g = with_mask g w
 
 abbrev pub word_answer : WordOrder → ℕ → Result (Unit {0}) OutOfRange
-word_answer o w = checked (word_fits o w) tt
+word_answer o w = value_if_fits (word_fits o w) tt
 
-abbrev pub ran_word : WordOrder → ℕ → Gate → Gate
-ran_word o w g = cond (word_fits o w) (word_run o w g) (erred g)
+abbrev pub run_word : WordOrder → ℕ → Gate → Gate
+run_word o w g = cond (word_fits o w) (with_word o w g) (with_command_error g)
 
 -- a value has its register's range, and a position that of a destination; any 32 bits are a point
 abbrev pub long_fits : LongOrder → ℕ → Bool
@@ -53,20 +53,20 @@ long_fits long.Destination v = load_fits (load.Destination (to_z w32 v))
 long_fits long.Velocity v = load_fits (load.Velocity v)
 long_fits long.Acceleration v = load_fits (load.Acceleration (to_z w32 v))
 long_fits long.Point v = true
-long_fits long.Actual v = in_range (to_z w32 v)
+long_fits long.Actual v = is_in_signed_range (to_z w32 v)
 
-abbrev pub long_run : LongOrder → ℕ → Gate → Gate
-long_run long.Destination v g = loaded (load.Destination (to_z w32 v)) g
-long_run long.Velocity v g = loaded (load.Velocity v) g
-long_run long.Acceleration v g = loaded (load.Acceleration (to_z w32 v)) g
-long_run long.Point v g = with_breakpoint g (record g.breakpoint { point = v })
-long_run long.Actual v g = placed (to_z w32 v) g
+abbrev pub with_long : LongOrder → ℕ → Gate → Gate
+with_long long.Destination v g = with_load (load.Destination (to_z w32 v)) g
+with_long long.Velocity v g = with_load (load.Velocity v) g
+with_long long.Acceleration v g = with_load (load.Acceleration (to_z w32 v)) g
+with_long long.Point v g = with_breakpoint g (record g.breakpoint { point = v })
+with_long long.Actual v g = gate_halted_at (to_z w32 v) g
 
 abbrev pub long_answer : LongOrder → ℕ → Result (Unit {0}) OutOfRange
-long_answer o v = checked (long_fits o v) tt
+long_answer o v = value_if_fits (long_fits o v) tt
 
-abbrev pub ran_long : LongOrder → ℕ → Gate → Gate
-ran_long o v g = cond (long_fits o v) (long_run o v g) (erred g)
+abbrev pub run_long : LongOrder → ℕ → Gate → Gate
+run_long o v g = cond (long_fits o v) (with_long o v g) (with_command_error g)
 
 -- the load that an order is, if it is one
 abbrev pub order_load : Order → Option Load

@@ -2,7 +2,7 @@
 use Rattle.std.specs.Prelude.{ℕ, ◌+◌, ◌*◌, ◌^◌, Bool, not}
 use Rattle.std.specs.Int.{w32}
 use Rattle.std.proofs.Common.{of_z}
-use Rattle.motion.specs.Course.{whole_steps}
+use Rattle.motion.specs.Course.{microsteps}
 use Rattle.gate.specs.declared.gate.Gate.{Gate}
 use Rattle.gate.specs.declared.queries.Query.{Query}
 use Rattle.gate.specs.declared.queries.Query.TheVariants.{Position, Velocity, Acceleration, TargetPosition, TargetVelocity, ActualPosition, CycleTime}
@@ -11,14 +11,14 @@ use Rattle.gate.specs.Cycles.{at_rest}
 use Rattle.gate.specs.Events.{events_word, raised, weight}
 
 -- the number that answers, signed ones in two's complement
-abbrev pub answered : Query → Gate → ℕ
-answered Position g = of_z w32 g.buffered.destination
-answered Velocity g = g.buffered.velocity
-answered Acceleration g = of_z w32 g.buffered.acceleration
-answered TargetPosition g = of_z w32 (whole_steps g.motion.target)
-answered TargetVelocity g = of_z w32 g.motion.velocity
-answered ActualPosition g = of_z w32 g.actual
-answered CycleTime g = time g.clock
+abbrev pub query_answer : Query → Gate → ℕ
+query_answer Position g = of_z w32 g.buffered.destination
+query_answer Velocity g = g.buffered.velocity
+query_answer Acceleration g = of_z w32 g.buffered.acceleration
+query_answer TargetPosition g = of_z w32 (microsteps g.motion.target)
+query_answer TargetVelocity g = of_z w32 g.motion.velocity
+query_answer ActualPosition g = of_z w32 g.actual
+query_answer CycleTime g = time g.clock
 
 -- the places of in-motion and of the axis in the status word
 abbrev pub in_motion_place : ℕ
@@ -32,5 +32,5 @@ abbrev pub status_word : ℕ → Gate → ℕ
 status_word axis g = events_word g.events + weight (not (at_rest g)) in_motion_place + axis * 2 ^ axis_place
 
 -- an event bit is set whose place in the mask holds 1
-abbrev pub calling : Gate → Bool
-calling g = raised g.mask g.events
+abbrev pub is_calling : Gate → Bool
+is_calling g = raised g.mask g.events

@@ -1,38 +1,38 @@
 ghost use Rattle.std.specs.Prelude.{◌≡◌, ◌^◌, ◌<◌, unsigned_abs};
-ghost use Rattle.gate.specs.Cycles.{clocked, encoded, tripped, meets, met, next_velocity, moved, arrived, at_rest, settled, cycled, shows};
-ghost use Rattle.gate.specs.Laws.{Paced, Ordered};
-ghost use Rattle.gate.specs.Sound.{Sound};
+ghost use Rattle.gate.specs.Cycles.{tick, encode, trip, meets, meet, next_velocity, advance, arrived, at_rest, settle, cycle, gate_phases};
+ghost use Rattle.gate.specs.Laws.{RespectsProfile, StepsInOrder};
+ghost use Rattle.gate.specs.Sound.{IsSound};
 
 use crate::breakpoint::BreakMode;
 use crate::gate::Gate;
 use crate::inputs::Inputs;
 use crate::profile::ProfileMode;
-use motion::course::{advanced, counted, cruise, distance, whole_steps};
+use motion::course::{advanced, counted, cruise, distance, microsteps};
 use motion::rate::Rate;
 use wave::phases::phases;
 
 impl Gate {
     fn tick(&mut self)
-        requires { Sound self.old }
-        ensures is { self.new ≡ clocked self.old }
-        ensures sound { Sound self.new }
+        requires { IsSound self.old }
+        ensures is { self.new ≡ tick self.old }
+        ensures sound { IsSound self.new }
     {
         self.clock.tick();
     }
 
     fn encode(&mut self, inputs: Inputs)
-        requires { Sound self.old }
-        ensures is { self.new ≡ encoded inputs.count self.old }
-        ensures sound { Sound self.new }
+        requires { IsSound self.old }
+        ensures is { self.new ≡ encode inputs.count self.old }
+        ensures sound { IsSound self.new }
     {
         self.actual = counted(self.actual, inputs.count);
     }
 
     // Trips the limits that are due, the positive one first, and arms the detectors of inactive inputs.
     fn trip(&mut self, inputs: Inputs)
-        requires { Sound self.old }
-        ensures is { self.new ≡ tripped inputs self.old }
-        ensures sound { Sound self.new }
+        requires { IsSound self.old }
+        ensures is { self.new ≡ trip inputs self.old }
+        ensures sound { IsSound self.new }
     {
         if !(inputs.positive | inputs.negative) {
             self.detectors.positive = true;
@@ -53,15 +53,15 @@ impl Gate {
 
     // Whether the breakpoint's condition holds.
     fn meets(&self, home: bool) -> bool
-        requires { Sound self.now }
+        requires { IsSound self.now }
         ensures { result ≡ meets home self.now }
     {
         let point = self.breakpoint.point;
         match self.breakpoint.mode {
             BreakMode::Off => false,
             BreakMode::Time => self.clock.time() == point,
-            BreakMode::TargetAbove => point.cast_signed() <= whole_steps(self.motion.target),
-            BreakMode::TargetBelow => whole_steps(self.motion.target) <= point.cast_signed(),
+            BreakMode::TargetAbove => point.cast_signed() <= microsteps(self.motion.target),
+            BreakMode::TargetBelow => microsteps(self.motion.target) <= point.cast_signed(),
             BreakMode::ActualAbove => point.cast_signed() <= self.actual,
             BreakMode::ActualBelow => self.actual <= point.cast_signed(),
             BreakMode::Complete => self.events.complete,
@@ -71,9 +71,9 @@ impl Gate {
 
     // Meets the breakpoint, if its condition holds.
     fn meet(&mut self, home: bool)
-        requires { Sound self.old }
-        ensures is { self.new ≡ met home self.old }
-        ensures sound { Sound self.new }
+        requires { IsSound self.old }
+        ensures is { self.new ≡ meet home self.old }
+        ensures sound { IsSound self.new }
     {
         if let BreakMode::Off = self.breakpoint.mode {
             return;
@@ -89,7 +89,7 @@ impl Gate {
 
     #[inline(always)]
     fn next_velocity(&self) -> i32
-        requires { Sound self.now }
+        requires { IsSound self.now }
         ensures is { result ≡ next_velocity self.now }
         ensures range { unsigned_abs result < 2 ^ 30 }
     {
@@ -112,9 +112,9 @@ impl Gate {
 
     #[inline(always)]
     fn advance(&mut self)
-        requires { Sound self.old }
-        ensures is { self.new ≡ moved self.old }
-        ensures sound { Sound self.new }
+        requires { IsSound self.old }
+        ensures is { self.new ≡ advance self.old }
+        ensures sound { IsSound self.new }
     {
         let velocity = self.next_velocity();
         let (target, crossed) = advanced(self.motion.target, velocity);
@@ -125,7 +125,7 @@ impl Gate {
 
     // Whether the gate has a destination, and stands on it.
     fn arrived(&self) -> bool
-        requires { Sound self.now }
+        requires { IsSound self.now }
         ensures { result ≡ arrived self.now.active.mode self.now }
     {
         match self.active.mode {
@@ -134,9 +134,9 @@ impl Gate {
         }
     }
 
-    // Whether the gate stands, and has nowhere to go.
+    /// Whether the gate stands, and has nowhere to go.
     pub fn at_rest(&self) -> bool
-        requires { Sound self.now }
+        requires { IsSound self.now }
         ensures { result ≡ at_rest self.now }
     {
         self.motion.velocity == 0
@@ -144,9 +144,9 @@ impl Gate {
     }
 
     fn settle(&mut self)
-        requires { Sound self.old }
-        ensures is { self.new ≡ settled self.old }
-        ensures sound { Sound self.new }
+        requires { IsSound self.old }
+        ensures is { self.new ≡ settle self.old }
+        ensures sound { IsSound self.new }
     {
         let rest = self.at_rest();
         if rest && !self.motion.rested {
@@ -155,27 +155,27 @@ impl Gate {
         self.motion.rested = rest;
     }
 
-    // The phases to show.
+    /// The phases to show.
     pub fn phases(&self) -> (i32, i32)
-        requires { Sound self.now }
-        ensures { result ≡ shows self.now }
+        requires { IsSound self.now }
+        ensures { result ≡ gate_phases self.now }
     {
         phases(
             self.kind,
             self.powers.active,
-            whole_steps(self.motion.target),
+            microsteps(self.motion.target),
         )
     }
 
-    // One cycle, of what the encoder and the switches bring; it answers the phases to show.
+    /// One cycle, of what the encoder and the switches bring; it answers the phases to show.
     #[inline(always)]
     pub fn cycle(&mut self, inputs: Inputs) -> (i32, i32)
-        requires { Sound self.old }
-        ensures is { self.new ≡ cycled inputs self.old }
-        ensures shows { result ≡ shows self.new }
-        ensures sound { Sound self.new }
-        ensures paced { Paced self.old self.new }
-        ensures ordered { Ordered inputs self.old self.new }
+        requires { IsSound self.old }
+        ensures is { self.new ≡ cycle inputs self.old }
+        ensures shows { result ≡ gate_phases self.new }
+        ensures sound { IsSound self.new }
+        ensures paced { RespectsProfile self.old self.new }
+        ensures ordered { StepsInOrder inputs self.old self.new }
     {
         self.tick();
         self.encode(inputs);

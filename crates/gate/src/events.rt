@@ -1,5 +1,5 @@
 ghost use Rattle.std.specs.Prelude.{◌≡◌, ◌<◌};
-ghost use Rattle.gate.specs.Events.{all, bit, place, no_events, events_word, kept, raised, weight};
+ghost use Rattle.gate.specs.Events.{all, bit, place, no_events, events_word, keep, raised, weight};
 
 #[derive(Clone, Copy, PartialEq, Eq, Debug)]
 pub enum Event {
@@ -12,7 +12,7 @@ pub enum Event {
 }
 
 impl Event {
-    // The place of the event's bit in a status word, in a mask and in a word that clears.
+    /// The place of the event's bit in a status word, in a mask and in a word that clears.
     pub fn place(self) -> u8
         ensures is { result ≡ place self }
         ensures bound { result < 16 }
@@ -21,7 +21,7 @@ impl Event {
     }
 }
 
-// The event bits of a gate.
+/// The event bits of a gate.
 #[derive(Clone, Copy, PartialEq, Eq, Default, Debug)]
 pub struct Events {
     pub complete: bool,
@@ -67,7 +67,7 @@ impl Events {
         ]
     }
 
-    // The bits at their places.
+    /// The bits at their places.
     pub fn word(&self) -> u16
         ensures { result ≡ events_word self.now }
     {
@@ -77,9 +77,10 @@ impl Events {
             .sum()
     }
 
-    // Clears the bits whose places hold 0 in the word. Written out, since a list of bits to write would hold references, and no array can.
+    /// Clears the bits whose places hold 0 in the word.
+    // Written out, since a list of bits to write would hold references, and no array can.
     pub fn keep(&mut self, word: u16)
-        ensures { self.new ≡ kept word self.old }
+        ensures { self.new ≡ keep word self.old }
     {
         self.complete &= holds(word, Event::MotionComplete);
         self.wrapped &= holds(word, Event::WrapAround);
@@ -89,7 +90,7 @@ impl Events {
         self.error &= holds(word, Event::CommandError);
     }
 
-    // Whether a bit is set whose place holds 1 in the mask.
+    /// Whether a bit is set whose place holds 1 in the mask.
     pub fn raised(&self, mask: u16) -> bool
         ensures { result ≡ raised mask self.now }
     {

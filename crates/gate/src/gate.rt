@@ -1,8 +1,8 @@
 ghost use Rattle.std.specs.Prelude.{◌≡◌, ◌^◌, true, false, pos, ◌*ℤ◌};
-ghost use Rattle.motion.specs.Course.{Within};
-ghost use Rattle.gate.specs.Gates.{fresh, latched, stopped, placed, erred, with_events, with_slip, with_motion};
-ghost use Rattle.gate.specs.Events.{kept};
-ghost use Rattle.gate.specs.Sound.{Sound};
+ghost use Rattle.motion.specs.Course.{IsWithin};
+ghost use Rattle.gate.specs.Gates.{fresh, latch, halted_motion, gate_halted_at, with_command_error, with_events, with_slip, with_motion};
+ghost use Rattle.gate.specs.Events.{keep};
+ghost use Rattle.gate.specs.Sound.{IsSound};
 
 use crate::breakpoint::{BreakMode, Breakpoint};
 use crate::clock::Clock;
@@ -14,8 +14,8 @@ use crate::profile::Profile;
 use motion::course::MICROSTEP;
 use wave::phases::MotorKind;
 
-// A gate is one axis of a board: a hopper gate and the stepping motor that moves it. This is all that is known of it; what holds the
-// record keeps its registers in their ranges.
+/// A gate is one axis of a board: a hopper gate and the stepping motor that moves it. This is all that is known of it; what holds the
+/// record keeps its registers in their ranges.
 #[derive(Clone, Copy, PartialEq, Eq, Debug)]
 pub struct Gate {
     pub buffered: Profile,
@@ -37,18 +37,18 @@ pub struct Gate {
 
 // A position in 1/65,536 microstep.
 fn whole(position: i32) -> i64
-    requires { Within (2 ^ 30) position }
+    requires { IsWithin (2 ^ 30) position }
     ensures is { result ≡ pos 65536 *ℤ position }
-    ensures range { Within (2 ^ 46) result }
+    ensures range { IsWithin (2 ^ 46) result }
 {
     MICROSTEP * i64::from(position)
 }
 
 impl Gate {
-    // The gate after a reset, which keeps the slip mark.
+    /// The gate after a reset, which keeps the slip mark.
     pub fn fresh(slip: bool) -> Gate
         ensures is { result ≡ fresh slip }
-        ensures sound { Sound result }
+        ensures sound { IsSound result }
     {
         Gate {
             buffered: Profile::first(),
@@ -81,11 +81,11 @@ impl Gate {
         }
     }
 
-    // Copies every buffered register into its active one, and ends a halt unless a limit bit is set.
+    /// Copies every buffered register into its active one, and ends a halt unless a limit bit is set.
     pub fn latch(&mut self)
-        ensures is { self.new ≡ latched self.old }
-        ensures once { latched self.new ≡ self.new }
-        ensures sound { Sound self.old → Sound self.new }
+        ensures is { self.new ≡ latch self.old }
+        ensures once { latch self.new ≡ self.new }
+        ensures sound { IsSound self.old → IsSound self.new }
     {
         self.active = self.buffered;
         self.powers.active = self.powers.buffered;
@@ -94,8 +94,8 @@ impl Gate {
 
     // Stops the gate where it is, until a latch.
     pub(crate) fn halt(&mut self)
-        ensures is { self.new ≡ with_motion self.old (stopped self.old.motion) }
-        ensures sound { Sound self.old → Sound self.new }
+        ensures is { self.new ≡ with_motion self.old (halted_motion self.old.motion) }
+        ensures sound { IsSound self.old → IsSound self.new }
     {
         self.motion.velocity = 0;
         self.motion.halted = true;
@@ -103,9 +103,9 @@ impl Gate {
 
     // Sets target and actual position, and halts the gate there.
     pub(crate) fn place(&mut self, position: i32)
-        requires { Within (2 ^ 30) position }
-        ensures is { self.new ≡ placed position self.old }
-        ensures sound { Sound self.old → Sound self.new }
+        requires { IsWithin (2 ^ 30) position }
+        ensures is { self.new ≡ gate_halted_at position self.old }
+        ensures sound { IsSound self.old → IsSound self.new }
     {
         self.halt();
         self.actual = position;
@@ -114,24 +114,24 @@ impl Gate {
 
     // Notes a command that was refused for its value.
     pub(crate) fn err(&mut self)
-        ensures is { self.new ≡ erred self.old }
-        ensures sound { Sound self.old → Sound self.new }
+        ensures is { self.new ≡ with_command_error self.old }
+        ensures sound { IsSound self.old → IsSound self.new }
     {
         self.events.error = true;
     }
 
-    // Hands out the gate's service slip.
+    /// Hands out the gate's service slip.
     pub fn lend(&mut self)
         ensures is { self.new ≡ with_slip self.old true }
-        ensures sound { Sound self.old → Sound self.new }
+        ensures sound { IsSound self.old → IsSound self.new }
     {
         self.slip = true;
     }
 
-    // Takes the slip back, and clears the event bits whose places hold 0 in the word.
+    /// Takes the slip back, and clears the event bits whose places hold 0 in the word.
     pub fn close(&mut self, word: u16)
-        ensures is { self.new ≡ with_slip (with_events self.old (kept word self.old.events)) false }
-        ensures sound { Sound self.old → Sound self.new }
+        ensures is { self.new ≡ with_slip (with_events self.old (keep word self.old.events)) false }
+        ensures sound { IsSound self.old → IsSound self.new }
     {
         self.events.keep(word);
         self.slip = false;

@@ -8,7 +8,7 @@ pub struct Inputs {
 }
 
 impl Inputs {
-    // What a cycle brings where the encoder stands and no switch is active.
+    /// What a cycle brings where the encoder stands and no switch is active.
     pub const STILL: Inputs = Inputs {
         count: 0,
         positive: false,

@@ -1,7 +1,7 @@
 ghost use Rattle.std.specs.Prelude.{◌≡◌, true};
-ghost use Rattle.gate.specs.Loads.{loaded, load_fits};
-ghost use Rattle.gate.specs.Laws.{Quiet, load_sees};
-ghost use Rattle.gate.specs.Sound.{Sound};
+ghost use Rattle.gate.specs.Loads.{with_load, load_fits};
+ghost use Rattle.gate.specs.Laws.{SameAnswersBut, load_sees};
+ghost use Rattle.gate.specs.Sound.{IsSound};
 
 use crate::gate::Gate;
 use crate::profile::ProfileMode;
@@ -24,9 +24,9 @@ pub enum Load {
 impl Gate {
     /// Loads one buffered register. The gate runs by it from the next latch on.
     pub fn load(&mut self, load: Load)
-        ensures is { self.new ≡ loaded load self.old }
-        ensures sound { load_fits load ≡ true → Sound self.old → Sound self.new }
-        ensures quiet { Quiet (load_sees load) self.old self.new }
+        ensures is { self.new ≡ with_load load self.old }
+        ensures sound { load_fits load ≡ true → IsSound self.old → IsSound self.new }
+        ensures quiet { SameAnswersBut (load_sees load) self.old self.new }
     {
         match load {
             Load::Destination(destination) => self.buffered.destination = destination,

@@ -1,11 +1,11 @@
 ghost use Rattle.std.specs.Prelude.{◌≡◌, true, cond, IfSome};
 ghost use Rattle.std.specs.Int.{w32};
 ghost use Rattle.std.proofs.Common.{to_z};
-ghost use Rattle.gate.specs.Loads.{in_range, load_fits};
-ghost use Rattle.gate.specs.Orders.{checked, ran, word_run, long_run, ran_word, ran_long, word_answer, long_answer, word_fits, long_fits};
+ghost use Rattle.gate.specs.Loads.{is_in_signed_range, load_fits};
+ghost use Rattle.gate.specs.Orders.{value_if_fits, run, with_word, with_long, run_word, run_long, word_answer, long_answer, word_fits, long_fits};
 ghost use Rattle.gate.specs.Orders.{order_load, word_load, long_load};
-ghost use Rattle.gate.specs.Laws.{Quiet, load_sees};
-ghost use Rattle.gate.specs.Sound.{Sound};
+ghost use Rattle.gate.specs.Laws.{SameAnswersBut, load_sees};
+ghost use Rattle.gate.specs.Sound.{IsSound};
 
 use crate::breakpoint::BreakMode;
 use crate::gate::Gate;
@@ -13,7 +13,7 @@ use crate::load::Load;
 use crate::profile::ProfileMode;
 use wave::phases::MotorKind;
 
-// What a gate can be told with no value.
+/// What a gate can be told with no value.
 #[derive(Clone, Copy, PartialEq, Eq, Debug)]
 pub enum Order {
     Mode(ProfileMode),
@@ -24,7 +24,7 @@ pub enum Order {
     Motor(MotorKind),
 }
 
-// What a gate can be told with a word.
+/// What a gate can be told with a word.
 #[derive(Clone, Copy, PartialEq, Eq, Debug)]
 pub enum WordOrder {
     BufferedPower,
@@ -33,7 +33,7 @@ pub enum WordOrder {
     Mask,
 }
 
-// What a gate can be told with a number of two words.
+/// What a gate can be told with a number of two words.
 #[derive(Clone, Copy, PartialEq, Eq, Debug)]
 pub enum LongOrder {
     Destination,
@@ -43,7 +43,7 @@ pub enum LongOrder {
     Actual,
 }
 
-// A value outside its range. It is never printed: a board answers it with a refusal of its own.
+/// A value outside its range. It is never printed: a board answers it with a refusal of its own.
 #[derive(Clone, Copy, PartialEq, Eq, Debug)]
 pub struct OutOfRange;
 
@@ -55,13 +55,13 @@ const LARGEST_VELOCITY: u32 = 0x3fff_ffff;
 const SIGNED_END: i32 = 0x4000_0000;
 
 fn power(word: u16) -> Result<u16, OutOfRange>
-    ensures { result ≡ checked (load_fits (Load.Power word)) word }
+    ensures { result ≡ value_if_fits (load_fits (Load.Power word)) word }
 {
     (word <= LARGEST_POWER).then_some(word).ok_or(OutOfRange)
 }
 
 fn velocity(value: u32) -> Result<u32, OutOfRange>
-    ensures { result ≡ checked (load_fits (Load.Velocity value)) value }
+    ensures { result ≡ value_if_fits (load_fits (Load.Velocity value)) value }
 {
     (value <= LARGEST_VELOCITY)
         .then_some(value)
@@ -69,7 +69,7 @@ fn velocity(value: u32) -> Result<u32, OutOfRange>
 }
 
 fn position(value: u32) -> Result<i32, OutOfRange>
-    ensures { result ≡ checked (in_range (to_z w32 value)) (to_z w32 value) }
+    ensures { result ≡ value_if_fits (is_in_signed_range (to_z w32 value)) (to_z w32 value) }
 {
     let position = value.cast_signed();
     (-SIGNED_END..SIGNED_END)
@@ -79,7 +79,8 @@ fn position(value: u32) -> Result<i32, OutOfRange>
 }
 
 fn acceleration(value: u32) -> Result<i32, OutOfRange>
-    ensures { result ≡ checked (load_fits (Load.Acceleration (to_z w32 value))) (to_z w32 value) }
+    ensures { result ≡ value_if_fits (load_fits (Load.Acceleration (to_z w32 value)))
+        (to_z w32 value) }
 {
     let acceleration = position(value)?;
     (acceleration != 0)
@@ -89,9 +90,10 @@ fn acceleration(value: u32) -> Result<i32, OutOfRange>
 
 impl Gate {
     pub fn run(&mut self, order: Order)
-        ensures is { self.new ≡ ran order self.old }
-        ensures sound { Sound self.old → Sound self.new }
-        ensures quiet { IfSome (order_load order) (λ load. Quiet (load_sees load) self.old self.new) }
+        ensures is { self.new ≡ run order self.old }
+        ensures sound { IsSound self.old → IsSound self.new }
+        ensures quiet { IfSome (order_load order)
+            (λ load. SameAnswersBut (load_sees load) self.old self.new) }
     {
         match order {
             Order::Mode(mode) => self.load(Load::Mode(mode)),
@@ -107,8 +109,9 @@ impl Gate {
     // matches into impls of a trait.
     fn try_word(&mut self, order: WordOrder, word: u16) -> Result<(), OutOfRange>
         ensures answer { result ≡ word_answer order word }
-        ensures is { self.new ≡ cond (word_fits order word) (word_run order word self.old) self.old }
-        ensures sound { Sound self.old → Sound self.new }
+        ensures is { self.new ≡
+            cond (word_fits order word) (with_word order word self.old) self.old }
+        ensures sound { IsSound self.old → IsSound self.new }
     {
         match order {
             WordOrder::BufferedPower => self.load(Load::Power(power(word)?)),
@@ -126,8 +129,9 @@ impl Gate {
     // Runs the order if the value fits it, and else changes nothing.
     fn try_long(&mut self, order: LongOrder, value: u32) -> Result<(), OutOfRange>
         ensures answer { result ≡ long_answer order value }
-        ensures is { self.new ≡ cond (long_fits order value) (long_run order value self.old) self.old }
-        ensures sound { Sound self.old → Sound self.new }
+        ensures is { self.new ≡
+            cond (long_fits order value) (with_long order value self.old) self.old }
+        ensures sound { IsSound self.old → IsSound self.new }
     {
         match order {
             LongOrder::Destination => self.load(Load::Destination(position(value)?)),
@@ -139,13 +143,13 @@ impl Gate {
         Ok(())
     }
 
-    // Runs the order, or sets the command error bit and nothing else.
+    /// Runs the order, or sets the command error bit and nothing else.
     pub fn run_word(&mut self, order: WordOrder, word: u16) -> Result<(), OutOfRange>
         ensures answer { result ≡ word_answer order word }
-        ensures is { self.new ≡ ran_word order word self.old }
-        ensures sound { Sound self.old → Sound self.new }
+        ensures is { self.new ≡ run_word order word self.old }
+        ensures sound { IsSound self.old → IsSound self.new }
         ensures quiet { word_fits order word ≡ true →
-            IfSome (word_load order word) (λ load. Quiet (load_sees load) self.old self.new) }
+            IfSome (word_load order word) (λ load. SameAnswersBut (load_sees load) self.old self.new) }
     {
         let done = self.try_word(order, word);
         if done.is_err() {
@@ -154,13 +158,13 @@ impl Gate {
         done
     }
 
-    // Runs the order, or sets the command error bit and nothing else.
+    /// Runs the order, or sets the command error bit and nothing else.
     pub fn run_long(&mut self, order: LongOrder, value: u32) -> Result<(), OutOfRange>
         ensures answer { result ≡ long_answer order value }
-        ensures is { self.new ≡ ran_long order value self.old }
-        ensures sound { Sound self.old → Sound self.new }
+        ensures is { self.new ≡ run_long order value self.old }
+        ensures sound { IsSound self.old → IsSound self.new }
         ensures quiet { long_fits order value ≡ true →
-            IfSome (long_load order value) (λ load. Quiet (load_sees load) self.old self.new) }
+            IfSome (long_load order value) (λ load. SameAnswersBut (load_sees load) self.old self.new) }
     {
         let done = self.try_long(order, value);
         if done.is_err() {

@@ -1,14 +1,14 @@
 ghost use Rattle.std.specs.Prelude.{◌≡◌};
 ghost use Rattle.gate.specs.Profile.{first_profile};
 
-// How a gate runs: to a destination, or at a velocity.
+/// How a gate runs: to a destination, or at a velocity.
 #[derive(Clone, Copy, PartialEq, Eq, Debug)]
 pub enum ProfileMode {
     Trapezoidal,
     Velocity,
 }
 
-// The profile registers, of which a gate has a buffered and an active set.
+/// The profile registers, of which a gate has a buffered and an active set.
 #[derive(Clone, Copy, PartialEq, Eq, Debug)]
 pub struct Profile {
     // in microsteps
@@ -21,7 +21,7 @@ pub struct Profile {
 }
 
 impl Profile {
-    // The registers after a reset.
+    /// The registers after a reset.
     pub fn first() -> Profile
         ensures { result ≡ first_profile }
     {

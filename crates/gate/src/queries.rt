@@ -1,16 +1,16 @@
 ghost use Rattle.std.specs.Prelude.{◌≡◌, ◌<◌};
-ghost use Rattle.gate.specs.Queries.{answered, status_word, calling};
-ghost use Rattle.gate.specs.Sound.{Sound};
+ghost use Rattle.gate.specs.Queries.{query_answer, status_word, is_calling};
+ghost use Rattle.gate.specs.Sound.{IsSound};
 
 use crate::gate::Gate;
-use motion::course::whole_steps;
+use motion::course::microsteps;
 
 // The places of in-motion and of the axis in the status word.
 const IN_MOTION_PLACE: u8 = 10;
 
 const AXIS_PLACE: u8 = 12;
 
-// What a gate can be asked with an answer of two words.
+/// What a gate can be asked with an answer of two words.
 #[derive(Clone, Copy, PartialEq, Eq, Debug)]
 pub enum Query {
     Position,
@@ -24,23 +24,23 @@ pub enum Query {
 
 impl Gate {
     pub fn answer(&self, query: Query) -> u32
-        requires { Sound self.now }
-        ensures { result ≡ answered query self.now }
+        requires { IsSound self.now }
+        ensures { result ≡ query_answer query self.now }
     {
         match query {
             Query::Position => self.buffered.destination.cast_unsigned(),
             Query::Velocity => self.buffered.velocity,
             Query::Acceleration => self.buffered.acceleration.cast_unsigned(),
-            Query::TargetPosition => whole_steps(self.motion.target).cast_unsigned(),
+            Query::TargetPosition => microsteps(self.motion.target).cast_unsigned(),
             Query::TargetVelocity => self.motion.velocity.cast_unsigned(),
             Query::ActualPosition => self.actual.cast_unsigned(),
             Query::CycleTime => self.clock.time(),
         }
     }
 
-    // The status word; `axis` is the current axis, 0 for gate 1 and 1 for gate 2.
+    /// The status word; `axis` is the current axis, 0 for gate 1 and 1 for gate 2.
     pub fn status(&self, axis: u8) -> u16
-        requires sound { Sound self.now }
+        requires sound { IsSound self.now }
         requires axis { axis < 4 }
         ensures { result ≡ status_word axis self.now }
     {
@@ -48,9 +48,9 @@ impl Gate {
         self.events.word() + moving + (u16::from(axis) << AXIS_PLACE)
     }
 
-    // Whether an event bit is set whose place in the mask holds 1.
+    /// Whether an event bit is set whose place in the mask holds 1.
     pub fn calls(&self) -> bool
-        ensures { result ≡ calling self.now }
+        ensures { result ≡ is_calling self.now }
     {
         self.events.raised(self.mask)
     }

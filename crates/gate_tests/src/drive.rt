@@ -1,4 +1,4 @@
-ghost use Rattle.gate.specs.Sound.{Sound};
+ghost use Rattle.gate.specs.Sound.{IsSound};
 
 use gate::gate::Gate;
 use gate::inputs::Inputs;
@@ -7,16 +7,16 @@ use gate::profile::ProfileMode;
 use std::process::Abort;
 use std::test::Fail;
 
-// A cycle with both limit switches active.
+/// A cycle with both limit switches active.
 pub const BOTH: Inputs = Inputs {
     positive: true,
     negative: true,
     ..Inputs::STILL
 };
 
-// A fresh gate with these registers active.
+/// A fresh gate with these registers active.
 pub fn sent(mode: ProfileMode, destination: i32, velocity: u32, acceleration: i32) -> Gate
-    ensures { Sound result }
+    ensures { IsSound result }
 {
     let mut gate = Gate::fresh(false);
     gate.run(Order::Mode(mode));
@@ -27,16 +27,16 @@ pub fn sent(mode: ProfileMode, destination: i32, velocity: u32, acceleration: i3
     gate
 }
 
-// Velocity, target position in 1/65,536 microstep, and status word.
+/// Velocity, target position in 1/65,536 microstep, and status word.
 pub fn seen(gate: &Gate) -> (i32, i64, u16)
-    requires { Sound gate.now }
+    requires { IsSound gate.now }
 {
     (gate.motion.velocity, gate.motion.target, gate.status(0))
 }
 
-// Holds still cycles to their rows.
+/// Holds still cycles to their rows.
 pub fn follows(rt: &impl Abort, mut gate: Gate, rows: &[(i32, i64, u16)]) -> Result<(), Fail>
-    requires { Sound gate }
+    requires { IsSound gate }
 {
     for row in rows {
         let _ = gate.cycle(Inputs::STILL);
@@ -45,7 +45,7 @@ pub fn follows(rt: &impl Abort, mut gate: Gate, rows: &[(i32, i64, u16)]) -> Res
     Ok(())
 }
 
-// What is left of a long move.
+/// What is left of a long move.
 #[derive(Clone, Copy, PartialEq, Eq, Debug)]
 pub struct Summary {
     // of all velocities, in order
@@ -56,7 +56,7 @@ pub struct Summary {
 }
 
 pub fn travel(mut gate: Gate, cycles: u32) -> Summary
-    requires { Sound gate }
+    requires { IsSound gate }
 {
     let mut checksum: u32 = 0;
     let mut complete = None;

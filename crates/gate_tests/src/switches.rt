@@ -5,7 +5,8 @@ use gate::orders::{LongOrder, Order, WordOrder};
 use gate::profile::ProfileMode;
 use std::test::Fail;
 
-// The positive limit is tried first; the negative one is held back until the bit is cleared, and then trips, since its detector stayed armed.
+// The positive limit is tried first; the negative one is held back until the bit is cleared, and then trips, since its detector stayed
+// armed.
 #[test]
 fn limits(rt: HostRuntime) {
     let mut gate = sent(ProfileMode::Trapezoidal, 1000, 1_310_720, 65_536);

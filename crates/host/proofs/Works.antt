@@ -11,21 +11,22 @@ use Rattle.gate.specs.declared.gate.Gate.{Gate}
 use Rattle.gate.specs.declared.inputs.Inputs.{Inputs}
 use Rattle.board.specs.declared.board.Board.{Board}
 use Rattle.board.specs.declared.refusal.Refusal.{Refusal}
-use Rattle.board.specs.Own.{done, slipped}
+use Rattle.board.specs.Own.{answer_done, answer_slip}
 use Rattle.board.specs.Acts.{act_cycle, act_take, gate_of, state_of}
-use Rattle.board.specs.Runs.{Did}
+use Rattle.board.specs.Runs.{Performs}
 use Rattle.board.proofs.Slips.{taken_out}
-use Rattle.desk.specs.Closes.{Closed}
+use Rattle.desk.specs.Closes.{ClosesSlip}
 use Rattle.script.specs.declared.line.Packet.{Packet}
 use Rattle.script.specs.declared.reply.Reply.{Reply}
-use Rattle.script.specs.Plays.{Whole}
+use Rattle.script.specs.Plays.{PlaysPacket}
 use Rattle.host.specs.declared.lot.Lot.{Lot}
 use Rattle.host.specs.declared.lot.Outcome.{Outcome}
-use Rattle.host.specs.Lots.{noted}
-use Rattle.host.specs.Works.{Answers, Answered, Notes, Bench, Cycled, Run, IfSomething, Turns, Worked, following, last_noted, lot_beside, with_answers, with_note}
+use Rattle.host.specs.Lots.{outcome_after}
+use Rattle.host.specs.Works.{WorkAnswers, AnswersPackets, Notes, Bench, CyclesOnce, RunsFor, IfSomething, WorksInTurn, WorksLot, following_inputs, outcomes_after, lot_beside, with_answers, with_note}
 
 -- a note is a write of the last outcome
-pub last_noted_at : (g : Gate) (os : List Outcome) (k : ℕ) (d : Outcome) → length os ≡ suc k → last_noted g os ≡ slice_set os k (noted (get_or os k d) g)
+pub last_noted_at : (g : Gate) (os : List Outcome) (k : ℕ) (d : Outcome) → length os ≡ suc k
+    → outcomes_after g os ≡ slice_set os k (outcome_after (get_or os k d) g)
 last_noted_at g [] k d e = absurd (omega arith)
 last_noted_at g (o ∷ []) zero d e = refl
 last_noted_at g (o ∷ []) (suc k) d e = absurd (omega arith)
@@ -33,16 +34,18 @@ last_noted_at g (o ∷ (p ∷ more)) zero d e = absurd (omega arith)
 last_noted_at g (o ∷ (p ∷ more)) (suc k) d e = ap (λ xs. o ∷ xs) (last_noted_at g (p ∷ more) k d (omega arith))
 
 -- one more answer is noted
-pub noted_more : (x y : Notes) (rs : Answers) (r : Result Reply Refusal) (all : Answers) → y ≡ with_answers rs x → all ≡ y.answers ++ (r ∷ []) → record y { answers = all } ≡ with_answers (rs ++ (r ∷ [])) x
+pub noted_more : (x y : Notes) (rs : WorkAnswers) (r : Result Reply Refusal) (all : WorkAnswers) → y ≡ with_answers rs x
+    → all ≡ y.answers ++ (r ∷ []) → record y { answers = all } ≡ with_answers (rs ++ (r ∷ [])) x
 noted_more x y rs r all p q =
-    ap (λ (it : Answers). record y { answers = it }) q
+    ap (λ (it : WorkAnswers). record y { answers = it }) q
     ∙ ap (λ (z : Notes). record z { answers = z.answers ++ (r ∷ []) }) p
-    ∙ ap (λ (it : Answers). record x { answers = it }) (append_assoc x.answers rs (r ∷ []))
+    ∙ ap (λ (it : WorkAnswers). record x { answers = it }) (append_assoc x.answers rs (r ∷ []))
 
 -- and two
-pub noted_two : (x : Notes) (r s v w : Result Reply Refusal) (one two : Answers) → one ≡ x.answers ++ (r ∷ []) → two ≡ one ++ (s ∷ []) → r ≡ v → s ≡ w → record x { answers = two } ≡ with_answers (v ∷ (w ∷ [])) x
+pub noted_two : (x : Notes) (r s v w : Result Reply Refusal) (one two : WorkAnswers) → one ≡ x.answers ++ (r ∷ []) → two ≡ one ++ (s ∷ [])
+    → r ≡ v → s ≡ w → record x { answers = two } ≡ with_answers (v ∷ (w ∷ [])) x
 noted_two x r s v w one two p q e f =
-    let first = ap (λ (it : Answers). record x { answers = it }) (p ∙ ap (λ (a : Result Reply Refusal). x.answers ++ (a ∷ [])) e) in
+    let first = ap (λ (it : WorkAnswers). record x { answers = it }) (p ∙ ap (λ (a : Result Reply Refusal). x.answers ++ (a ∷ [])) e) in
     noted_more x (record x { answers = one }) (v ∷ []) w two first (q ∙ ap (λ (a : Result Reply Refusal). one ++ (a ∷ [])) f)
 
 -- the place of a gate's number
@@ -51,49 +54,59 @@ gate_below n e = grind (arith, common_steps)
 
 module _ {S : Type 0} (m : Ghosts S) where
   -- one more packet is answered
-  pub answered_more : (ps : List Packet) (rs : Answers) (p : Packet) (r : Result Reply Refusal) (b c d : Board S m) → Answered m ps rs b c → ((n : ℕ) × Whole m p n r c d) → Answered m (ps ++ (p ∷ [])) (rs ++ (r ∷ [])) b d
-  answered_more [] [] p r b c d q w = (d, w.0, subst (λ (x : Board S m). Whole m p w.0 r x d) (sym q) w.1, refl)
+  pub answered_more : (ps : List Packet) (rs : WorkAnswers) (p : Packet) (r : Result Reply Refusal) (b c d : Board S m)
+      → AnswersPackets m ps rs b c → ((n : ℕ) × PlaysPacket m p n r c d) → AnswersPackets m (ps ++ (p ∷ [])) (rs ++ (r ∷ [])) b d
+  answered_more [] [] p r b c d q w = (d, w.0, subst (λ (x : Board S m). PlaysPacket m p w.0 r x d) (sym q) w.1, refl)
   answered_more [] (x ∷ rs) p r b c d q w = elim q [ ]
   answered_more (a ∷ ps) [] p r b c d q w = elim q [ ]
   answered_more (a ∷ ps) (x ∷ rs) p r b c d q w = (q.0, q.1, q.2, answered_more ps rs p r q.0 c d q.3 w)
 
   -- and so the next one of a list
-  pub answered_next : (ps : List Packet) (i : ℕ) (d : Packet) (rs : Answers) (r : Result Reply Refusal) (x y z : Board S m) → i < length ps → Answered m (take i ps) rs x y → ((n : ℕ) × Whole m (get_or ps i d) n r y z) → Answered m (take (i + 1) ps) (rs ++ (r ∷ [])) x z
+  pub answered_next : (ps : List Packet) (i : ℕ) (d : Packet) (rs : WorkAnswers) (r : Result Reply Refusal) (x y z : Board S m)
+      → i < length ps → AnswersPackets m (take i ps) rs x y → ((n : ℕ) × PlaysPacket m (get_or ps i d) n r y z)
+      → AnswersPackets m (take (i + 1) ps) (rs ++ (r ∷ [])) x z
   answered_next ps i d rs r x y z l p w = rw (take_more ps i d l) (answered_more (take i ps) rs (get_or ps i d) r x y z p w)
 
   -- a slip just taken is closed
-  pub closed_once_taken : (n w : ℕ) (y : Bool) (b c d : Board S m) → is_gate n ≡ true → Did m act_take (slipped (n - 1)) b c → Closed m n w y c d → y ≡ true
+  pub closed_once_taken : (n w : ℕ) (y : Bool) (b c d : Board S m) → is_gate n ≡ true → Performs m act_take (answer_slip (n - 1)) b c
+      → ClosesSlip m n w y c d → y ≡ true
   closed_once_taken n w true b c d g took closed = refl
   closed_once_taken n w false b c d g took closed =
-      let out = taken_out (state_of b.table) (state_of c.table) (n - 1) (gate_below n g) took.says took.state in
+      let out = taken_out (state_of b.table) (state_of c.table) (n - 1) (gate_below n g) took.answers took.state in
       let kept : (gate_of (state_of c.table) (n - 1)).slip ≡ false = closed.0 g in
       cc (out, kept)
 
   -- a cycle, by what was put to the gates and what was noted of them
-  pub cycled_by : (s t : Bench m) (i j : Inputs) (g h p q : Gate) → Did m (act_cycle i j) done s.board t.board → i ≡ following g → g ≡ gate_of (state_of s.board.table) 0 → j ≡ following h → h ≡ gate_of (state_of s.board.table) 1 → t.left ≡ with_note p s.left → p ≡ gate_of (state_of t.board.table) 0 → t.right ≡ with_note q s.right → q ≡ gate_of (state_of t.board.table) 1 → Cycled m s t
+  pub cycled_by : (s t : Bench m) (i j : Inputs) (g h p q : Gate) → Performs m (act_cycle i j) answer_done s.board t.board
+      → i ≡ following_inputs g → g ≡ gate_of (state_of s.board.table) 0 → j ≡ following_inputs h → h ≡ gate_of (state_of s.board.table) 1
+      → t.left ≡ with_note p s.left → p ≡ gate_of (state_of t.board.table) 0 → t.right ≡ with_note q s.right
+      → q ≡ gate_of (state_of t.board.table) 1 → CyclesOnce m s t
   cycled_by s t i j g h p q did i-is g-is j-is h-is left p-is right q-is =
-      let one : i ≡ following (gate_of (state_of s.board.table) 0) = i-is ∙ ap following g-is in
-      let two : j ≡ following (gate_of (state_of s.board.table) 1) = j-is ∙ ap following h-is in
+      let one : i ≡ following_inputs (gate_of (state_of s.board.table) 0) = i-is ∙ ap following_inputs g-is in
+      let two : j ≡ following_inputs (gate_of (state_of s.board.table) 1) = j-is ∙ ap following_inputs h-is in
       record {
-        did = subst (λ (y : Inputs). Did m (act_cycle (following (gate_of (state_of s.board.table) 0)) y) done s.board t.board) two
-            (subst (λ (x : Inputs). Did m (act_cycle x j) done s.board t.board) one did);
+        did =
+            subst (λ (y : Inputs). Performs m (act_cycle (following_inputs (gate_of (state_of s.board.table) 0)) y) answer_done s.board t.board) two
+            (subst (λ (x : Inputs). Performs m (act_cycle x j) answer_done s.board t.board) one did);
         left = left ∙ ap (λ x. with_note x s.left) p-is;
         right = right ∙ ap (λ x. with_note x s.right) q-is;
       }
 
   -- no cycle, and one more
-  pub run_none : (s : Bench m) → Run m 0 s s
-  unfolding Run
+  pub run_none : (s : Bench m) → RunsFor m 0 s s
+  unfolding RunsFor
   run_none s = refl
 
-  pub run_more : (n : ℕ) (s u t : Bench m) → Run m n s u → Cycled m u t → Run m (n + 1) s t
-  unfolding Run
+  pub run_more : (n : ℕ) (s u t : Bench m) → RunsFor m n s u → CyclesOnce m u t → RunsFor m (n + 1) s t
+  unfolding RunsFor
   run_more n s u t p q = rw add-one (u, p, q)
 
   -- one more lot
-  pub turns_more : (lots : List Lot) (rights : Option (List Lot)) (k : ℕ) (d : Lot) (beside : Option Lot) (s u t : Bench m) → k < length lots → beside ≡ lot_beside rights k → Turns m lots rights k s u → Worked m (get_or lots k d) beside u t → Turns m lots rights (k + 1) s t
+  pub turns_more : (lots : List Lot) (rights : Option (List Lot)) (k : ℕ) (d : Lot) (beside : Option Lot) (s u t : Bench m)
+      → k < length lots → beside ≡ lot_beside rights k → WorksInTurn m lots rights k s u → WorksLot m (get_or lots k d) beside u t
+      → WorksInTurn m lots rights (k + 1) s t
   turns_more lots rights k d beside s u t l e p w =
-      rw add-one (u, get_or lots k d, p, slice_get-get_or lots k d l, subst (λ (other : Option Lot). Worked m (get_or lots k d) other u t) e w)
+      rw add-one (u, get_or lots k d, p, slice_get-get_or lots k d l, subst (λ (other : Option Lot). WorksLot m (get_or lots k d) other u t) e w)
 
   -- what is done for the right gate, by whether it has lots
   pub if_lots : (P : Notes → Board S m → Notes → Board S m → Type 0) (o : Option (Bor (List Lot))) (x y z : Notes) (b c d : Board S m) → is_some o ≡ true → z ≡ y → d ≡ c → P x b y c → IfSomething m (λ (lots : List Lot). P) (option_copied o) x b z d

@@ -11,12 +11,12 @@ use Rattle.script.specs.declared.boards.Boards.{Boards}
 use Rattle.script.specs.declared.fault.Expected.{Expected}
 use Rattle.script.specs.declared.line.Line.{Line}
 use Rattle.script.specs.declared.reply.Reply.{Reply}
-use Rattle.script.specs.Lines.{Says}
-use Rattle.script.specs.Sides.{Went}
+use Rattle.script.specs.Lines.{ReadsLine}
+use Rattle.script.specs.Sides.{PlaysOnBoards}
 
 -- what stands before the first '#' of a line, or all of it
-abbrev pub uncommented : List ℕ → List ℕ
-uncommented text = before_first (λ b. b == 35) text
+abbrev pub text_before_comment : List ℕ → List ℕ
+text_before_comment text = before_first (λ b. b == 35) text
 
 -- what std's `split_whitespace` gives for a text
 abbrev pub IsWordsOf : List ℕ → List (Bor (List ℕ)) → Type 0
@@ -24,17 +24,19 @@ IsWordsOf text words = (it : SplitWhitespace) × (split_whitespace_rest it ≡ t
 
 module _ {S R : Type 0} (m : Ghosts S) (n : Ghosts R) where
   -- a line that could be read is played, and any other leaves the boards alone
-  abbrev pub PlayedIfRead : Result Line Expected → Bool → Boards S R m n → Boards S R m n → Type 0
-  PlayedIfRead (Ok l) readable x y = (readable ≡ true) × ((answer : Result (Option Reply) Refusal) × Went m n l answer x y)
-  PlayedIfRead (Err e) readable x y = (readable ≡ false) × (y ≡ x)
+  abbrev pub PlaysIfRead : Result Line Expected → Bool → Boards S R m n → Boards S R m n → Type 0
+  PlaysIfRead (Ok l) readable x y = (readable ≡ true) × ((answer : Result (Option Reply) Refusal) × PlaysOnBoards m n l answer x y)
+  PlaysIfRead (Err e) readable x y = (readable ≡ false) × (y ≡ x)
 
   -- the words of a text without its comment are read as a line, and played
-  abbrev pub TextPlayed : List ℕ → Bool → Boards S R m n → Boards S R m n → Type 0
-  TextPlayed text readable x y =
-      (words : List (Bor (List ℕ))) × (line : Result Line Expected) × IsWordsOf (uncommented text) words × Says words line × PlayedIfRead line readable x y
+  abbrev pub PlaysText : List ℕ → Bool → Boards S R m n → Boards S R m n → Type 0
+  PlaysText text readable x y =
+      (words : List (Bor (List ℕ))) × (line : Result Line Expected) × IsWordsOf (text_before_comment text) words × ReadsLine words line
+      × PlaysIfRead line readable x y
 
   -- the lines of a script are played in their order, and so many could not be read
-  abbrev pub ScriptPlayed : List (List ℕ) → ℕ → Boards S R m n → Boards S R m n → Type 0
-  ScriptPlayed [] faults x y = (faults ≡ 0) × (x ≡ y)
-  ScriptPlayed (t ∷ ts) faults x y =
-      (z : Boards S R m n) × (readable : Bool) × (rest : ℕ) × TextPlayed t readable x z × ScriptPlayed ts rest z y × (faults ≡ cond readable rest (suc rest))
+  abbrev pub PlaysScript : List (List ℕ) → ℕ → Boards S R m n → Boards S R m n → Type 0
+  PlaysScript [] faults x y = (faults ≡ 0) × (x ≡ y)
+  PlaysScript (t ∷ ts) faults x y =
+      (z : Boards S R m n) × (readable : Bool) × (rest : ℕ) × PlaysText t readable x z × PlaysScript ts rest z y
+      × (faults ≡ cond readable rest (suc rest))

@@ -3,42 +3,42 @@ use Rattle.std.specs.Prelude.{◌≡◌, ℕ, zero, suc, ◌-◌, true, List, []
 use Rattle.std.specs.Option.{option_and_then}
 use Rattle.std.specs.Int.{w32, int_min, int_max, cast_unsigned}
 use Rattle.stage.specs.declared.Stage.{Ghosts}
-use Rattle.motion.specs.Course.{whole_steps}
+use Rattle.motion.specs.Course.{microsteps}
 use Rattle.gate.specs.declared.gate.Gate.{Gate}
 use Rattle.gate.specs.declared.inputs.Inputs.{Inputs}
 use Rattle.gate.specs.declared.breakpoint.BreakMode.TheVariants.{Time}
 use Rattle.gate.specs.declared.orders.Order.TheVariants.{Break}
 use Rattle.gate.specs.declared.orders.WordOrder.TheVariants.{Power, Mask}
 use Rattle.gate.specs.declared.orders.LongOrder.TheVariants.{Destination, Velocity, Acceleration, Point}
-use Rattle.gate.specs.Inputs.{still}
+use Rattle.gate.specs.Inputs.{still_inputs}
 use Rattle.board.specs.declared.board.Board.{Board}
 use Rattle.board.specs.declared.command.Command.TheVariants as command
 use Rattle.board.specs.declared.command.Whose.{Whose}
 use Rattle.board.specs.declared.command.Whose.TheVariants.{First, Second}
 use Rattle.board.specs.declared.refusal.Refusal.{Refusal}
-use Rattle.board.specs.Own.{done}
+use Rattle.board.specs.Own.{answer_done}
 use Rattle.board.specs.Acts.{act_cycle, act_take, gate_of, state_of}
-use Rattle.board.specs.Runs.{Did}
-use Rattle.desk.specs.Closes.{heard_number, Closed}
+use Rattle.board.specs.Runs.{Performs}
+use Rattle.desk.specs.Closes.{answer_of_number, ClosesSlip}
 use Rattle.script.specs.declared.line.Packet.{Packet}
 use Rattle.script.specs.declared.line.Packet.TheVariants as packet
 use Rattle.script.specs.declared.reply.Reply.{Reply}
 use Rattle.script.specs.declared.reply.Reply.TheVariants.{Done, Slip}
-use Rattle.script.specs.Plays.{Whole}
+use Rattle.script.specs.Plays.{PlaysPacket}
 use Rattle.host.specs.declared.lot.Lot.{Lot}
 use Rattle.host.specs.declared.lot.Outcome.{Outcome}
 use Rattle.host.specs.declared.lots.Work.{Work}
-use Rattle.host.specs.Lots.{noted}
+use Rattle.host.specs.Lots.{outcome_after}
 
 -- what a gate's packets and slips are answered
-abbrev pub Answers : Type 0
-Answers = List (Result Reply Refusal)
+abbrev pub WorkAnswers : Type 0
+WorkAnswers = List (Result Reply Refusal)
 
 -- what is noted of a gate's work
 pub record Notes : Type 0 where
   pub whose : Whose
   pub outcomes : List Outcome
-  pub answers : Answers
+  pub answers : WorkAnswers
 
 abbrev pub notes_of : Work → Notes
 notes_of w = record { whose = w.whose; outcomes = w.outcomes.items; answers = w.answers.items }
@@ -51,32 +51,32 @@ no_notes whose = record { whose = whose; outcomes = []; answers = [] }
 abbrev pub no_outcome : Lot → Outcome
 no_outcome lot = record { lot = lot; set_off = None; arrived = None; target = pos 0 }
 
-abbrev pub with_answers : Answers → Notes → Notes
+abbrev pub with_answers : WorkAnswers → Notes → Notes
 with_answers more x = record x { answers = x.answers ++ more }
 
 abbrev pub with_lot : Lot → Notes → Notes
 with_lot lot x = record x { outcomes = x.outcomes ++ (no_outcome lot ∷ []) }
 
 -- a cycle's record of the gate is noted with the lot that it works, which is the last one
-abbrev pub last_noted : Gate → List Outcome → List Outcome
-last_noted g [] = []
-last_noted g (o ∷ []) = noted o g ∷ []
-last_noted g (o ∷ (p ∷ more)) = o ∷ last_noted g (p ∷ more)
+abbrev pub outcomes_after : Gate → List Outcome → List Outcome
+outcomes_after g [] = []
+outcomes_after g (o ∷ []) = outcome_after o g ∷ []
+outcomes_after g (o ∷ (p ∷ more)) = o ∷ outcomes_after g (p ∷ more)
 
 abbrev pub with_note : Gate → Notes → Notes
-with_note g x = record x { outcomes = last_noted g x.outcomes }
+with_note g x = record x { outcomes = outcomes_after g x.outcomes }
 
 -- the packets that make a gate ready: its status, its power, its mask
-abbrev pub readying : Whose → ℕ → ℕ → List Packet
-readying whose power mask =
+abbrev pub ready_packets : Whose → ℕ → ℕ → List Packet
+ready_packets whose power mask =
     packet.Plain (command.Status whose)
     ∷ (packet.Word (command.Word Power) power
     ∷ (packet.Word (command.Word Mask) mask
     ∷ []))
 
 -- the packets that load a lot: the status of its gate, its registers, and a breakpoint at its time
-abbrev pub loading : Whose → Lot → List Packet
-loading whose lot =
+abbrev pub load_packets : Whose → Lot → List Packet
+load_packets whose lot =
     packet.Plain (command.Status whose)
     ∷ (packet.Long (command.Long Destination) (cast_unsigned w32 lot.destination)
     ∷ (packet.Long (command.Long Velocity) lot.velocity
@@ -86,8 +86,9 @@ loading whose lot =
     ∷ [])))))
 
 -- an encoder that follows its motor: it counts what the target position is ahead of the actual one, as far as a count goes
-abbrev pub following : Gate → Inputs
-following g = record still { count = int_max (neg_ℤ (pos 32768)) (int_min (whole_steps g.motion.target -ℤ g.actual) (pos 32767)) }
+abbrev pub following_inputs : Gate → Inputs
+following_inputs g =
+    record still_inputs { count = int_max (neg_ℤ (pos 32768)) (int_min (microsteps g.motion.target -ℤ g.actual) (pos 32767)) }
 
 -- the right gate's lot at a place
 abbrev pub lot_beside : Option (List Lot) → ℕ → Option Lot
@@ -95,29 +96,30 @@ lot_beside rights k = option_and_then (λ lots. slice_get lots k) rights
 
 module _ {S : Type 0} (m : Ghosts S) where
   -- board b becomes d by packets that are answered in turn
-  abbrev pub Answered : List Packet → Answers → Board S m → Board S m → Type 0
-  Answered [] [] b d = b ≡ d
-  Answered [] (r ∷ rs) b d = ⊥
-  Answered (p ∷ ps) [] b d = ⊥
-  Answered (p ∷ ps) (r ∷ rs) b d = (c : Board S m) × (n : ℕ) × Whole m p n r b c × Answered ps rs c d
+  abbrev pub AnswersPackets : List Packet → WorkAnswers → Board S m → Board S m → Type 0
+  AnswersPackets [] [] b d = b ≡ d
+  AnswersPackets [] (r ∷ rs) b d = ⊥
+  AnswersPackets (p ∷ ps) [] b d = ⊥
+  AnswersPackets (p ∷ ps) (r ∷ rs) b d = (c : Board S m) × (n : ℕ) × PlaysPacket m p n r b c × AnswersPackets ps rs c d
 
   -- packets are played for a gate whose notes are x, and leave the notes y
-  abbrev pub Noted : List Packet → Notes → Board S m → Notes → Board S m → Type 0
-  Noted ps x b y d = (rs : Answers) × Answered ps rs b d × (y ≡ with_answers rs x)
+  abbrev pub NotesPackets : List Packet → Notes → Board S m → Notes → Board S m → Type 0
+  NotesPackets ps x b y d = (rs : WorkAnswers) × AnswersPackets ps rs b d × (y ≡ with_answers rs x)
 
   -- a gate is made ready
-  abbrev pub Readied : ℕ → ℕ → Notes → Board S m → Notes → Board S m → Type 0
-  Readied power mask x b y d = Noted (readying x.whose power mask) x b y d
+  abbrev pub MakesReady : ℕ → ℕ → Notes → Board S m → Notes → Board S m → Type 0
+  MakesReady power mask x b y d = NotesPackets (ready_packets x.whose power mask) x b y d
 
   -- a lot is loaded
-  abbrev pub Loaded : Lot → Notes → Board S m → Notes → Board S m → Type 0
-  Loaded lot x b y d = Noted (loading x.whose lot) (with_lot lot x) b y d
+  abbrev pub LoadsLot : Lot → Notes → Board S m → Notes → Board S m → Type 0
+  LoadsLot lot x b y d = NotesPackets (load_packets x.whose lot) (with_lot lot x) b y d
 
   -- a slip is taken, and closed with a word that clears motion complete alone
-  abbrev pub Served : Result ℕ Refusal → Notes → Board S m → Notes → Board S m → Type 0
-  Served (Ok n) x b y d =
-      (c : Board S m) × Did m act_take (heard_number (Ok n)) b c × Closed m n 65534 true c d × (y ≡ with_answers (Ok (Slip n) ∷ (Ok Done ∷ [])) x)
-  Served (Err e) x b y d = Did m act_take (heard_number (Err e)) b d × (y ≡ with_answers (Err e ∷ []) x)
+  abbrev pub ServesSlip : Result ℕ Refusal → Notes → Board S m → Notes → Board S m → Type 0
+  ServesSlip (Ok n) x b y d =
+      (c : Board S m) × Performs m act_take (answer_of_number (Ok n)) b c × ClosesSlip m n 65534 true c d
+      × (y ≡ with_answers (Ok (Slip n) ∷ (Ok Done ∷ [])) x)
+  ServesSlip (Err e) x b y d = Performs m act_take (answer_of_number (Err e)) b d × (y ≡ with_answers (Err e ∷ []) x)
 
   -- a board, and what is noted of the work of its left gate and its right gate
   pub record Bench : Type 0 where
@@ -126,15 +128,16 @@ module _ {S : Type 0} (m : Ghosts S) where
     pub right : Notes
 
   -- a cycle, in which each encoder follows its motor; each gate's record after it is noted
-  pub record Cycled (s t : Bench) : Type 0 where
-    pub did : Did m (act_cycle (following (gate_of (state_of s.board.table) 0)) (following (gate_of (state_of s.board.table) 1))) done s.board t.board
+  pub record CyclesOnce (s t : Bench) : Type 0 where
+    pub did : Performs m (act_cycle (following_inputs (gate_of (state_of s.board.table) 0))
+        (following_inputs (gate_of (state_of s.board.table) 1))) answer_done s.board t.board
     pub left : t.left ≡ with_note (gate_of (state_of t.board.table) 0) s.left
     pub right : t.right ≡ with_note (gate_of (state_of t.board.table) 1) s.right
 
   -- so many cycles
-  unfoldable pub Run : ℕ → Bench → Bench → Type 0
-  Run zero s t = s ≡ t
-  Run (suc n) s t = (u : Bench) × Run n s u × Cycled u t
+  unfoldable pub RunsFor : ℕ → Bench → Bench → Type 0
+  RunsFor zero s t = s ≡ t
+  RunsFor (suc n) s t = (u : Bench) × RunsFor n s u × CyclesOnce u t
 
   -- what is done for one gate, and the other's notes stay
   abbrev pub AtLeft : (Notes → Board S m → Notes → Board S m → Type 0) → Bench → Bench → Type 0
@@ -144,34 +147,35 @@ module _ {S : Type 0} (m : Ghosts S) where
   AtRight P s t = P s.right s.board t.right t.board × (t.left ≡ s.left)
 
   -- what is done for a gate, if there is something to do it with
-  abbrev pub IfSomething : {T : Type 0} → (T → Notes → Board S m → Notes → Board S m → Type 0) → Option T → Notes → Board S m → Notes → Board S m → Type 0
+  abbrev pub IfSomething : {T : Type 0} → (T → Notes → Board S m → Notes → Board S m → Type 0) → Option T → Notes → Board S m → Notes →
+      Board S m → Type 0
   IfSomething P (Some z) x b y d = P z x b y d
   IfSomething P None x b y d = (y ≡ x) × (d ≡ b)
 
   -- one lot of the left gate from its load to its service, and the right gate's beside it
-  pub record Worked (lot : Lot) (beside : Option Lot) (s t : Bench) : Type 0 where
+  pub record WorksLot (lot : Lot) (beside : Option Lot) (s t : Bench) : Type 0 where
     pub loaded : Bench
     pub both : Bench
     pub ran : Bench
     pub taken : Result ℕ Refusal
-    pub left_loads : AtLeft (Loaded lot) s loaded
-    pub right_loads : AtRight (IfSomething Loaded beside) loaded both
-    pub runs : Run 160 both ran
-    pub left_served : AtLeft (Served taken) ran t
+    pub left_loads : AtLeft (LoadsLot lot) s loaded
+    pub right_loads : AtRight (IfSomething LoadsLot beside) loaded both
+    pub runs : RunsFor 160 both ran
+    pub left_served : AtLeft (ServesSlip taken) ran t
 
   -- so many of the left gate's lots in their order, and beside each the right gate's of the same place, if that gate is to work
-  abbrev pub Turns : List Lot → Option (List Lot) → ℕ → Bench → Bench → Type 0
-  Turns lots rights zero s t = s ≡ t
-  Turns lots rights (suc k) s t =
-      (u : Bench) × (lot : Lot) × Turns lots rights k s u × (slice_get lots k ≡ Some lot) × Worked lot (lot_beside rights k) u t
+  abbrev pub WorksInTurn : List Lot → Option (List Lot) → ℕ → Bench → Bench → Type 0
+  WorksInTurn lots rights zero s t = s ≡ t
+  WorksInTurn lots rights (suc k) s t =
+      (u : Bench) × (lot : Lot) × WorksInTurn lots rights k s u × (slice_get lots k ≡ Some lot) × WorksLot lot (lot_beside rights k) u t
 
   -- all the lots: each gate that works is made ready with its power and its mask, the left one first, and then come the turns
-  pub record AllWorked (lots : List Lot) (rights : Option (List Lot)) (s t : Bench) : Type 0 where
+  pub record WorksAll (lots : List Lot) (rights : Option (List Lot)) (s t : Bench) : Type 0 where
     pub ready : Bench
     pub both : Bench
-    pub left_ready : AtLeft (Readied 20000 1) s ready
-    pub right_ready : AtRight (IfSomething (λ (rs : List Lot). Readied 12000 0) rights) ready both
-    pub turns : Turns lots rights (length lots) both t
+    pub left_ready : AtLeft (MakesReady 20000 1) s ready
+    pub right_ready : AtRight (IfSomething (λ (rs : List Lot). MakesReady 12000 0) rights) ready both
+    pub turns : WorksInTurn lots rights (length lots) both t
 
   -- a board with the works of its two gates, and one whose gates are yet to be worked
   abbrev pub bench_of : Board S m → Work → Work → Bench

@@ -1,12 +1,12 @@
 ghost use Rattle.std.specs.Prelude.{◌≡◌, None, pos};
-ghost use Rattle.gate.specs.Sound.{Sound};
-ghost use Rattle.host.specs.Lots.{noted};
+ghost use Rattle.gate.specs.Sound.{IsSound};
+ghost use Rattle.host.specs.Lots.{outcome_after};
 
 use gate::gate::Gate;
-use motion::course::whole_steps;
+use motion::course::microsteps;
 use std::fmt;
 
-// A lot of olives: where its gate is sent, and the time at which a breakpoint latches that.
+/// A lot of olives: where its gate is sent, and the time at which a breakpoint latches that.
 #[derive(Clone, Copy, Debug, PartialEq, Eq)]
 pub struct Lot {
     pub destination: i32,
@@ -15,7 +15,7 @@ pub struct Lot {
     pub start: u32,
 }
 
-// The cycles that a lot is given.
+/// The cycles that a lot is given.
 pub const CYCLES: u32 = 160;
 
 pub const LEFT: [Lot; 3] = [
@@ -60,7 +60,7 @@ pub const RIGHT: [Lot; 3] = [
     },
 ];
 
-// What became of a lot.
+/// What became of a lot.
 #[derive(Clone, Copy, Debug, PartialEq, Eq)]
 pub struct Outcome {
     pub lot: Lot,
@@ -82,10 +82,10 @@ impl Outcome {
         }
     }
 
-    // Notes what a cycle did to the gate.
+    /// Notes what a cycle did to the gate.
     pub fn note(&mut self, gate: Gate)
-        requires { Sound gate }
-        ensures { self.new ≡ noted self.old gate }
+        requires { IsSound gate }
+        ensures { self.new ≡ outcome_after self.old gate }
     {
         let now = gate.clock.time();
         if gate.motion.velocity != 0 {
@@ -93,7 +93,7 @@ impl Outcome {
         } else if self.set_off.is_some() {
             self.arrived.get_or_insert(now);
         }
-        self.target = whole_steps(gate.motion.target);
+        self.target = microsteps(gate.motion.target);
     }
 }
 

@@ -1,9 +1,9 @@
 ghost use Rattle.std.specs.Prelude.{◌≡◌, ◌<◌, ◌-◌, true, ℕ, Result, Option, OnOk, IfOk};
 ghost use Rattle.std.specs.Option.{option_copied};
 ghost use Rattle.stage.specs.Pairs.{is_gate};
-ghost use Rattle.gate.specs.Sound.{Sound};
+ghost use Rattle.gate.specs.Sound.{IsSound};
 ghost use Rattle.board.specs.Acts.{gate_of, state_of};
-ghost use Rattle.host.specs.Works.{notes_of, no_notes, with_note, lot_beside, following, bench_of, new_bench, Noted, Readied, Loaded, Served, Run, IfSomething, Worked, AllWorked};
+ghost use Rattle.host.specs.Works.{notes_of, no_notes, with_note, lot_beside, following_inputs, bench_of, new_bench, NotesPackets, MakesReady, LoadsLot, ServesSlip, RunsFor, IfSomething, WorksLot, WorksAll};
 
 use crate::lot::{CYCLES, Lot, Outcome};
 use board::command::{Command, Whose};
@@ -13,14 +13,14 @@ use gate::breakpoint::BreakMode;
 use gate::gate::Gate;
 use gate::inputs::Inputs;
 use gate::orders::{LongOrder, Order, WordOrder};
-use motion::course::whole_steps;
+use motion::course::microsteps;
 use script::line::Packet;
 use script::play::play_packet;
 use script::reply::Reply;
 use stage::Stage;
 use std::alloc::{AllocError, Global};
 
-// What one gate did with its lots, and what its packets and slips were answered.
+/// What one gate did with its lots, and what its packets and slips were answered.
 #[derive(Drop)]
 pub struct Work {
     whose: Whose,
@@ -48,7 +48,9 @@ impl Work {
         desk: &mut Desk<S>,
         packets: &[Packet],
     ) -> Result<(), AllocError>
-        ensures { OnOk result (Noted S.Stage packets.now (notes_of self.old) desk.old.board (notes_of self.new) desk.new.board) }
+        ensures { OnOk result
+            (NotesPackets S.Stage packets.now (notes_of self.old) desk.old.board (notes_of self.new)
+            desk.new.board) }
     {
         for packet in packets {
             self.answers.push(play_packet(desk, *packet))?;
@@ -63,7 +65,9 @@ impl Work {
         power: u16,
         mask: u16,
     ) -> Result<(), AllocError>
-        ensures { OnOk result (Readied S.Stage power mask (notes_of self.old) desk.old.board (notes_of self.new) desk.new.board) }
+        ensures { OnOk result
+            (MakesReady S.Stage power mask (notes_of self.old) desk.old.board (notes_of self.new)
+            desk.new.board) }
     {
         let packets = [
             Packet::Plain(Command::Status(self.whose)),
@@ -75,7 +79,9 @@ impl Work {
 
     // Loads a lot, to be latched by a breakpoint at its time.
     fn order<S: Stage + Drop>(&mut self, desk: &mut Desk<S>, lot: Lot) -> Result<(), AllocError>
-        ensures { OnOk result (Loaded S.Stage lot (notes_of self.old) desk.old.board (notes_of self.new) desk.new.board) }
+        ensures { OnOk result
+            (LoadsLot S.Stage lot (notes_of self.old) desk.old.board (notes_of self.new)
+            desk.new.board) }
     {
         self.outcomes.push(Outcome::new(lot))?;
         let destination = lot.destination.cast_unsigned();
@@ -96,7 +102,9 @@ impl Work {
         desk: &mut Desk<S>,
         lot: Option<Lot>,
     ) -> Result<(), AllocError>
-        ensures { OnOk result (IfSomething S.Stage (Loaded S.Stage) lot (notes_of self.old) desk.old.board (notes_of self.new) desk.new.board) }
+        ensures { OnOk result
+            (IfSomething S.Stage (LoadsLot S.Stage) lot (notes_of self.old) desk.old.board
+            (notes_of self.new) desk.new.board) }
     {
         match lot {
             Some(lot) => self.order(desk, lot),
@@ -106,7 +114,7 @@ impl Work {
 
     // Notes what a cycle did to the gate, with the lot that it works.
     fn note(&mut self, gate: Gate)
-        requires { Sound gate }
+        requires { IsSound gate }
         ensures { notes_of self.new ≡ with_note gate (notes_of self.old) }
     {
         if let Some(outcome) = self.outcomes.last_mut() {
@@ -116,7 +124,10 @@ impl Work {
 
     // Serves the gate's call.
     fn serve<S: Stage + Drop>(&mut self, desk: &mut Desk<S>) -> Result<(), AllocError>
-        ensures { OnOk result ((taken : Result ℕ Refusal) × Served S.Stage taken (notes_of self.old) desk.old.board (notes_of self.new) desk.new.board) }
+        ensures { OnOk result
+            ((taken : Result ℕ Refusal) ×
+            ServesSlip S.Stage taken (notes_of self.old) desk.old.board (notes_of self.new)
+            desk.new.board) }
     {
         let taken = desk.take();
         self.answers.push(taken.map(Reply::Slip))?;
@@ -131,7 +142,7 @@ impl Work {
 
 fn record<S: Stage + Drop>(desk: &Desk<S>, gate: u8) -> Gate
     requires { is_gate gate ≡ true }
-    ensures sound { Sound result }
+    ensures sound { IsSound result }
     ensures is { result ≡ gate_of (state_of desk.now.board.table) (gate - 1) }
 {
     desk.board().record(gate).unwrap()
@@ -139,10 +150,10 @@ fn record<S: Stage + Drop>(desk: &Desk<S>, gate: u8) -> Gate
 
 // An encoder that follows its motor: it counts what the target position is ahead of the actual one.
 fn follow(gate: Gate) -> Inputs
-    requires { Sound gate }
-    ensures { result ≡ following gate }
+    requires { IsSound gate }
+    ensures { result ≡ following_inputs gate }
 {
-    let ahead = whole_steps(gate.motion.target) - gate.actual;
+    let ahead = microsteps(gate.motion.target) - gate.actual;
     Inputs {
         count: ahead.clamp(-32_768, 32_767) as i16,
         ..Inputs::STILL
@@ -151,7 +162,8 @@ fn follow(gate: Gate) -> Inputs
 
 // Runs the cycles of a lot, and notes what both gates do.
 fn run<S: Stage + Drop>(desk: &mut Desk<S>, left: &mut Work, right: &mut Work)
-    ensures { Run S.Stage 160 (bench_of S.Stage desk.old.board left.old right.old) (bench_of S.Stage desk.new.board left.new right.new) }
+    ensures { RunsFor S.Stage 160 (bench_of S.Stage desk.old.board left.old right.old)
+        (bench_of S.Stage desk.new.board left.new right.new) }
 {
     for _cycle in 0..CYCLES {
         let (one, two) = (follow(record(desk, 1)), follow(record(desk, 2)));
@@ -169,7 +181,9 @@ fn work_lot<S: Stage + Drop>(
     lot: Lot,
     beside: Option<Lot>,
 ) -> Result<(), AllocError>
-    ensures { OnOk result (Worked S.Stage lot beside (bench_of S.Stage desk.old.board left.old right.old) (bench_of S.Stage desk.new.board left.new right.new)) }
+    ensures { OnOk result
+        (WorksLot S.Stage lot beside (bench_of S.Stage desk.old.board left.old right.old)
+        (bench_of S.Stage desk.new.board left.new right.new)) }
 {
     left.order(desk, lot)?;
     right.order_if(desk, beside)?;
@@ -187,14 +201,16 @@ fn lot_at<const N: usize>(lots: Option<&[Lot; N]>, index: usize) -> Option<Lot>
     }
 }
 
-// Works the lots of the left gate, and beside each of them one of the right gate, if that gate is to work.
+/// Works the lots of the left gate, and beside each of them one of the right gate, if that gate is to work.
 pub fn work_lots<S: Stage + Drop, const N: usize>(
     heap: Global,
     desk: &mut Desk<S>,
     left: &[Lot; N],
     right: Option<&[Lot; N]>,
 ) -> Result<(Work, Work), AllocError>
-    ensures { IfOk result (λ works. AllWorked S.Stage left.now (option_copied right.entry) (new_bench S.Stage desk.old.board) (bench_of S.Stage desk.new.board works.0 works.1)) }
+    ensures { IfOk result
+        (λ works. WorksAll S.Stage left.now (option_copied right.entry)
+        (new_bench S.Stage desk.old.board) (bench_of S.Stage desk.new.board works.0 works.1)) }
 {
     let mut one = Work::new(heap, Whose::First);
     let mut two = Work::new(heap, Whose::Second);

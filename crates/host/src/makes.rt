@@ -1,26 +1,26 @@
 ghost use Rattle.std.specs.Prelude.{Some};
 ghost use Rattle.std.specs.Result.{result_ok};
-ghost use Rattle.host.specs.Makes.{Both, Names, name_of, pair_of};
+ghost use Rattle.host.specs.Makes.{NamesMakes, NamesMake, make_name, makes_of};
 
 use std::fmt;
 use std::str::FromStr;
 use thiserror::Error;
 
-// The makes of output stage that the console can set its boards on.
+/// The makes of output stage that the console can set its boards on.
 #[derive(Clone, Copy, Debug, PartialEq, Eq)]
 pub enum Make {
     Dac,
     Pwm,
 }
 
-// The makes of board a and board b.
+/// The makes of board a and board b.
 #[derive(Clone, Copy, Debug, PartialEq, Eq)]
 pub struct Makes {
     pub a: Make,
     pub b: Make,
 }
 
-// A word that names no make, or words that name no two.
+/// A word that names no make, or words that name no two.
 #[derive(Clone, Copy, Debug, PartialEq, Eq, Error)]
 #[error("a make is dac or pwm")]
 pub struct Unnamed;
@@ -28,7 +28,7 @@ pub struct Unnamed;
 impl FromStr for Make {
     type Err = Unnamed;
 
-    ghost from_str_gives = { λ word r. Names word (result_ok r) };
+    ghost from_str_gives = { λ word r. NamesMake word (result_ok r) };
 
     fn from_str(word: &str) -> Result<Make, Unnamed> {
         match word {
@@ -40,7 +40,7 @@ impl FromStr for Make {
 }
 
 impl fmt::Display for Make {
-    ghost output = { λ make. Some (name_of make) };
+    ghost output = { λ make. Some (make_name make) };
 
     fn fmt<W: fmt::Write>(&self, f: &mut fmt::Formatter<W>) -> fmt::Result {
         f.write_str(match self {
@@ -54,7 +54,7 @@ impl fmt::Display for Make {
 impl FromStr for Makes {
     type Err = Unnamed;
 
-    ghost from_str_gives = { λ text r. Both text (pair_of r) };
+    ghost from_str_gives = { λ text r. NamesMakes text (makes_of r) };
 
     fn from_str(text: &str) -> Result<Makes, Unnamed> {
         let (a, b) = text.split_once(',').ok_or(Unnamed)?;

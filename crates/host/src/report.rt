@@ -17,8 +17,8 @@ fn show_work(rt: &HostRuntime, gate: u8, work: &Work) -> anyhow::Result<()> {
 }
 
 // How many answers of two lists are equal, place by place.
-fn alike(left: &[Result<Reply, Refusal>], right: &[Result<Reply, Refusal>]) -> usize {
-    left.iter().zip(right).filter(|(a, b)| **a == **b).count()
+fn alike(a: &[Result<Reply, Refusal>], b: &[Result<Reply, Refusal>]) -> usize {
+    a.iter().zip(b).filter(|(x, y)| **x == **y).count()
 }
 
 // What one gate has in common on two boards.
@@ -36,7 +36,7 @@ fn show_comparison<S: Stage + Drop, R: Stage + Drop>(
     Ok(())
 }
 
-// Works lots through both gates of board a, then those of the left gate alone on board b, and compares the boards.
+/// Works lots through both gates of board a, then those of the left gate alone on board b, and compares the boards.
 pub fn show_lots<S: Stage + Drop, R: Stage + Drop>(
     rt: &HostRuntime,
     makes: Makes,

@@ -1,6 +1,6 @@
 ghost use Rattle.std.specs.Prelude.{◌≡◌, IfOk};
 ghost use Rattle.std.specs.Str.Lines.{lines};
-ghost use Rattle.host.specs.Scripts.{uncommented, TextPlayed, ScriptPlayed};
+ghost use Rattle.host.specs.Scripts.{text_before_comment, PlaysText, PlaysScript};
 
 use script::boards::Boards;
 use script::line::Line;
@@ -9,7 +9,7 @@ use stage::codes::Wires;
 
 // A line of a script without its comment.
 fn uncommented(line: &str) -> &str
-    ensures { result.now ≡ uncommented line.now }
+    ensures { result.now ≡ text_before_comment line.now }
 {
     line.split_once('#')
         .map_or(line, |(before, _comment)| before)
@@ -22,7 +22,8 @@ fn play_line<S: Wires + Drop, R: Wires + Drop>(
     number: usize,
     text: &str,
 ) -> anyhow::Result<bool>
-    ensures { IfOk result (λ readable. TextPlayed S.Stage R.Stage text.now readable boards.old boards.new) }
+    ensures { IfOk result
+        (λ readable. PlaysText S.Stage R.Stage text.now readable boards.old boards.new) }
 {
     let words: Vec<&str> = uncommented(text).split_whitespace().collect(rt.alloc())?;
     match Line::try_from(words.as_slice()) {
@@ -39,13 +40,14 @@ fn play_line<S: Wires + Drop, R: Wires + Drop>(
     }
 }
 
-// Plays a script from its first line to its last, and answers how many lines could not be read.
+/// Plays a script from its first line to its last, and answers how many lines could not be read.
 pub fn play_script<S: Wires + Drop, R: Wires + Drop>(
     rt: &HostRuntime,
     boards: &mut Boards<S, R>,
     script: &str,
 ) -> anyhow::Result<usize>
-    ensures { IfOk result (λ faults. ScriptPlayed S.Stage R.Stage (lines script.now) faults boards.old boards.new) }
+    ensures { IfOk result
+        (λ faults. PlaysScript S.Stage R.Stage (lines script.now) faults boards.old boards.new) }
 {
     // Counted in the loop: a fold that may fail would hide the printing of a line in a closure.
     let mut faults = 0usize;

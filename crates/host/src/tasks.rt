@@ -3,13 +3,13 @@ use travel::plan::Plan;
 use windings::rig::{CROSSED, Rig};
 use windings::settings::Settings;
 
-// A move of one gate, by its arguments.
+/// A move of one gate, by its arguments.
 pub fn show_move(rt: &HostRuntime, words: &[String]) -> anyhow::Result<()> {
     Journey::new(Plan::try_from(words)?)?.show(rt)?;
     Ok(())
 }
 
-// A trial of a motor's windings, by its arguments.
+/// A trial of a motor's windings, by its arguments.
 pub fn show_windings(rt: &HostRuntime, words: &[String]) -> anyhow::Result<()> {
     Rig::new(Settings::try_from(words)?, CROSSED).show(rt)?;
     Ok(())

@@ -2,10 +2,10 @@
 use Rattle.std.proofs.Common.{◌≡◌, ℕ, zero, suc, ◌+◌, ◌-◌, ◌<◌, ◌≤◌, min, max, Bool, true, false, ◌⊎◌, ℤ, pos, negsuc, ◌-ℤ◌, neg_ℤ, nat_abs, ◌≤ℤ◌, ◌<ℤ◌, refl, ap, ◌∙◌, inl, inr, true≢false, arith}
 use lib.Signed.{lt_z}
 use Rattle.std.proofs.lemmas.Int.{ints, clamps}
-use Rattle.motion.specs.Reach.{reach}
+use Rattle.motion.specs.StoppingDistance.{stopping_distance}
 use Rattle.motion.specs.Speed.{largest}
-use Rattle.motion.specs.Course.{toward, halts, pace, along, trapezoid, cruise}
-use Rattle.motion.proofs.Falling.{reach_step}
+use Rattle.motion.specs.Course.{toward, must_decelerate, next_speed, along, trapezoid, cruise}
+use Rattle.motion.proofs.Falling.{stopping_distance_step}
 use Rattle.motion.proofs.Fastest.{largest_is}
 
 module _ (v target : ℤ) (by : ℕ) (r : ℤ) (is : r ≡ toward v target by) where
@@ -43,94 +43,99 @@ along_size (pos d) n = refl
 along_size (negsuc d) n = omega (arith, ints)
 
 -- forwards, a velocity below 0 runs against the distance
-pub halts_on : (v d : ℤ) → pos 0 <ℤ d → halts v d ≡ lt_z v (pos 0)
-unfolding halts
-halts_on v (pos zero) h = absurd (omega (arith, ints))
-halts_on v (pos (suc d)) h = refl
-halts_on v (negsuc d) h = absurd (omega (arith, ints))
+pub must_decelerate_on : (v d : ℤ) → pos 0 <ℤ d → must_decelerate v d ≡ lt_z v (pos 0)
+unfolding must_decelerate
+must_decelerate_on v (pos zero) h = absurd (omega (arith, ints))
+must_decelerate_on v (pos (suc d)) h = refl
+must_decelerate_on v (negsuc d) h = absurd (omega (arith, ints))
 
 -- backwards, a velocity above 0
-pub halts_back : (v d : ℤ) → d <ℤ pos 0 → halts v d ≡ lt_z (pos 0) v
-unfolding halts
-halts_back v (pos d) h = absurd (omega (arith, ints))
-halts_back v (negsuc d) h = refl
+pub must_decelerate_back : (v d : ℤ) → d <ℤ pos 0 → must_decelerate v d ≡ lt_z (pos 0) v
+unfolding must_decelerate
+must_decelerate_back v (pos d) h = absurd (omega (arith, ints))
+must_decelerate_back v (negsuc d) h = refl
 
 -- at the destination any velocity is to end
-pub halts_there : (v d : ℤ) → d ≡ pos 0 → halts v d ≡ true
-unfolding halts
-halts_there v d e = rw e
+pub must_decelerate_there : (v d : ℤ) → d ≡ pos 0 → must_decelerate v d ≡ true
+unfolding must_decelerate
+must_decelerate_there v d e = rw e
 
 -- the next speed is no greater than the last and the greatest allowed
-pace_size : (u top rate distance : ℕ) → pace u top rate distance ≤ max u top
-unfolding pace
-pace_size u top rate distance = omega (arith, (largest_is rate distance (min top (u + rate))).within)
+next_speed_size : (u top rate distance : ℕ) → next_speed u top rate distance ≤ max u top
+unfolding next_speed
+next_speed_size u top rate distance = omega (arith, (largest_is rate distance (min top (u + rate))).within)
 
 -- it lies within `rate` of the last
-pace_step : (u top rate distance : ℕ) → (u ≤ pace u top rate distance + rate) × (pace u top rate distance ≤ u + rate)
-unfolding pace
-pace_step u top rate distance = omega (arith, (largest_is rate distance (min top (u + rate))).within)
+next_speed_step : (u top rate distance : ℕ) → (u ≤ next_speed u top rate distance + rate) × (next_speed u top rate distance ≤ u + rate)
+unfolding next_speed
+next_speed_step u top rate distance = omega (arith, (largest_is rate distance (min top (u + rate))).within)
 
 -- the greater of two is one of them
 either : (a b : ℕ) → (max a b ≡ a) ⊎ (max a b ≡ b)
 either a b = search arith
 
 -- where the speed that the gate slows to fits the distance, so does the next speed
-pace_stops : (u top rate distance : ℕ) → reach rate (u - rate) ≤ distance → reach rate (pace u top rate distance) ≤ distance
-unfolding pace
-pace_stops u top rate distance h =
+next_speed_stops : (u top rate distance : ℕ) → stopping_distance rate (u - rate) ≤ distance
+    → stopping_distance rate (next_speed u top rate distance) ≤ distance
+unfolding next_speed
+next_speed_stops u top rate distance h =
     let s = largest rate distance (min top (u + rate)) in
     let fits = (largest_is rate distance (min top (u + rate))).fits in
-    elim (either s (u - rate)) [ inl e ↦ omega (arith, fits, ap (reach rate) e) | inr e ↦ omega (arith, ap (reach rate) e) ]
+    elim (either s (u - rate)) [ inl e ↦ omega (arith, fits, ap (stopping_distance rate) e) | inr e ↦ omega (arith, ap (stopping_distance rate) e) ]
 
 -- a gate that is to stop
-pub trapezoid_halts : (v : ℤ) (top rate : ℕ) (d : ℤ) → halts v d ≡ true → trapezoid v top rate d ≡ toward v (pos 0) rate
+pub trapezoid_decelerates : (v : ℤ) (top rate : ℕ) (d : ℤ) → must_decelerate v d ≡ true → trapezoid v top rate d ≡ toward v (pos 0) rate
 unfolding trapezoid
-trapezoid_halts v top rate d e = rw e
+trapezoid_decelerates v top rate d e = rw e
 
 -- a gate that runs
-pub trapezoid_runs : (v : ℤ) (top rate : ℕ) (d : ℤ) → halts v d ≡ false → trapezoid v top rate d ≡ along d (pace (nat_abs v) top rate (nat_abs d))
+pub trapezoid_runs : (v : ℤ) (top rate : ℕ) (d : ℤ) → must_decelerate v d ≡ false
+    → trapezoid v top rate d ≡ along d (next_speed (nat_abs v) top rate (nat_abs d))
 unfolding trapezoid
 trapezoid_runs v top rate d e = rw e
 
 -- of a gate that runs, a speed near the last is a velocity as near
-along_step : (v d : ℤ) (rate n : ℕ) → halts v d ≡ false → (nat_abs v ≤ n + rate) × (n ≤ nat_abs v + rate) → nat_abs (along d n -ℤ v) ≤ rate
-unfolding halts along
+along_step : (v d : ℤ) (rate n : ℕ) → must_decelerate v d ≡ false → (nat_abs v ≤ n + rate) × (n ≤ nat_abs v + rate)
+    → nat_abs (along d n -ℤ v) ≤ rate
+unfolding must_decelerate along
 along_step v (pos zero) rate n e h = absurd (true≢false e)
 along_step v (pos (suc d)) rate n e h = omega (arith, ints)
 along_step v (negsuc d) rate n e h = omega (arith, ints)
 
 module _ (v : ℤ) (top rate : ℕ) (d r : ℤ) (is : r ≡ trapezoid v top rate d) where
   -- the two cases of the next velocity
-  by_halts : {P : Type 0} → (r ≡ toward v (pos 0) rate → P) → (halts v d ≡ false → r ≡ along d (pace (nat_abs v) top rate (nat_abs d)) → P) → P
-  by_halts {P} halted runs = go (halts v d) refl
+  by_must_decelerate : {P : Type 0} → (r ≡ toward v (pos 0) rate → P)
+      → (must_decelerate v d ≡ false → r ≡ along d (next_speed (nat_abs v) top rate (nat_abs d)) → P) → P
+  by_must_decelerate {P} halted runs = go (must_decelerate v d) refl
     where
-      go : (b : Bool) → halts v d ≡ b → P
-      go true e = halted (is ∙ trapezoid_halts v top rate d e)
+      go : (b : Bool) → must_decelerate v d ≡ b → P
+      go true e = halted (is ∙ trapezoid_decelerates v top rate d e)
       go false e = runs e (is ∙ trapezoid_runs v top rate d e)
 
   -- the next velocity is no greater than the last and the greatest allowed
   pub trapezoid_size : nat_abs r ≤ max (nat_abs v) top
   trapezoid_size =
-      by_halts
+      by_must_decelerate
       (λ e. omega (arith, ap nat_abs e, toward_zero v rate))
-      (λ _ e. omega (arith, ap nat_abs e, along_size d (pace (nat_abs v) top rate (nat_abs d)), pace_size (nat_abs v) top rate (nat_abs d)))
+      (λ _ e. omega (arith, ap nat_abs e, along_size d (next_speed (nat_abs v) top rate (nat_abs d)), next_speed_size (nat_abs v) top rate (nat_abs d)))
 
   -- it lies within `rate` of the last
   pub trapezoid_step : nat_abs (r -ℤ v) ≤ rate
   trapezoid_step =
-      by_halts
+      by_must_decelerate
       (toward_step v (pos 0) rate r)
-      (λ h e. rw e (along_step v d rate (pace (nat_abs v) top rate (nat_abs d)) h (pace_step (nat_abs v) top rate (nat_abs d))))
+      (λ h e. rw e (along_step v d rate (next_speed (nat_abs v) top rate (nat_abs d)) h (next_speed_step (nat_abs v) top rate (nat_abs d))))
 
   -- a gate that can stop within the distance still can after the cycle
-  pub trapezoid_stops : 0 < rate → reach rate (nat_abs v - rate) ≤ nat_abs d → nat_abs r + reach rate (nat_abs r - rate) ≤ nat_abs d
+  pub trapezoid_stops : 0 < rate → stopping_distance rate (nat_abs v - rate) ≤ nat_abs d
+      → nat_abs r + stopping_distance rate (nat_abs r - rate) ≤ nat_abs d
   trapezoid_stops p h =
-      let fits : reach rate (nat_abs r) ≤ nat_abs d =
-      by_halts
+      let fits : stopping_distance rate (nat_abs r) ≤ nat_abs d =
+      by_must_decelerate
       (λ e. rw (ap nat_abs e ∙ toward_zero v rate) h)
-      (λ _ e. rw (ap nat_abs e ∙ along_size d (pace (nat_abs v) top rate (nat_abs d))) (pace_stops (nat_abs v) top rate (nat_abs d) h))
+      (λ _ e. rw (ap nat_abs e ∙ along_size d (next_speed (nat_abs v) top rate (nat_abs d))) (next_speed_stops (nat_abs v) top rate (nat_abs d) h))
       in
-      omega (arith, reach_step rate (nat_abs r) p)
+      omega (arith, stopping_distance_step rate (nat_abs r) p)
 
 module _ (v : ℤ) (top : ℕ) (acceleration r : ℤ) (is : r ≡ cruise v top acceleration) where
   -- the next velocity is no greater than the last and the greatest allowed

@@ -1,3 +1,3 @@
-pub mod Reach
+pub mod StoppingDistance
 pub mod Speed
 pub mod Course

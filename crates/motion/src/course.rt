@@ -1,7 +1,7 @@
 ghost use Rattle.std.specs.Prelude.{◌≡◌, ◌*◌, ◌%◌, ◌^◌, ◌<◌, ◌≤◌, max, pos, ◌-ℤ◌, ◌≤ℤ◌, ◌<ℤ◌, unsigned_abs};
-ghost use Rattle.motion.specs.Course.{Within, advanced, along, counted, crosses, cruise, distance_to, halts, toward, whole_steps, wrap};
+ghost use Rattle.motion.specs.Course.{IsWithin, advanced, along, counted, crosses, cruise, distance_to, must_decelerate, toward, microsteps, wrapped};
 
-// A microstep in the unit of target positions.
+/// A microstep in the unit of target positions.
 pub const MICROSTEP: i64 = 65_536;
 
 // Target positions run from -POSITION_END to POSITION_END - 1.
@@ -10,7 +10,7 @@ const POSITION_END: i64 = 1 << 46;
 // Encoder positions run from -COUNT_END to COUNT_END - 1.
 const COUNT_END: i64 = 1 << 30;
 
-// `v` moved toward the target by at most `by`.
+/// `v` moved toward the target by at most `by`.
 pub fn toward(v: i32, target: i32, by: u32) -> i32
     requires speed { unsigned_abs v < 2 ^ 30 }
     requires target { unsigned_abs target < 2 ^ 30 }
@@ -34,9 +34,9 @@ pub(crate) fn along(d: i64, size: u32) -> i32
 }
 
 // Whether nothing is left to travel, or `v` runs against the distance.
-#[tactic(auto, using(crate::proofs::Velocities::halts_on, crate::proofs::Velocities::halts_back, crate::proofs::Velocities::halts_there))]
-pub(crate) fn halts(v: i32, distance: i64) -> bool
-    ensures { result ≡ halts v distance }
+#[tactic(auto, using(crate::proofs::Velocities::must_decelerate_on, crate::proofs::Velocities::must_decelerate_back, crate::proofs::Velocities::must_decelerate_there))]
+pub(crate) fn must_decelerate(v: i32, distance: i64) -> bool
+    ensures { result ≡ must_decelerate v distance }
 {
     if distance == 0 {
         true
@@ -47,7 +47,7 @@ pub(crate) fn halts(v: i32, distance: i64) -> bool
     }
 }
 
-// The next velocity toward `top` in the direction of the acceleration.
+/// The next velocity toward `top` in the direction of the acceleration.
 #[tactic(auto, unfolding(crate::specs::Course::cruise))]
 pub fn cruise(v: i32, top: u32, acceleration: i32) -> i32
     requires speed { unsigned_abs v < 2 ^ 30 }
@@ -68,52 +68,52 @@ fn wrapped(z: i64, half: i64) -> i64
     requires bounded { half ≤ℤ pos (2 ^ 46) }
     requires whole { 2 ^ 64 % (2 * unsigned_abs half) ≡ 0 }
     requires near { unsigned_abs z < 2 ^ 48 }
-    ensures is { result ≡ wrap (unsigned_abs half) z }
-    ensures range { Within (unsigned_abs half) result }
+    ensures is { result ≡ wrapped (unsigned_abs half) z }
+    ensures range { IsWithin (unsigned_abs half) result }
 {
     let turn = (2 * half).cast_unsigned();
     ((z + half).cast_unsigned() % turn).cast_signed() - half
 }
 
-// The target position a cycle later, and whether it crossed an end of its range: both always hold, as of `overflowing_add`.
+/// The target position a cycle later, and whether it crossed an end of its range: both always hold, as of `overflowing_add`.
 pub fn advanced(p: i64, v: i32) -> (i64, bool)
-    requires position { Within (2 ^ 46) p }
+    requires position { IsWithin (2 ^ 46) p }
     requires speed { unsigned_abs v < 2 ^ 30 }
     ensures is { result.0 ≡ advanced p v }
     ensures crossed { result.1 ≡ crosses p v }
-    ensures range { Within (2 ^ 46) result.0 }
+    ensures range { IsWithin (2 ^ 46) result.0 }
 {
     let sum = p + i64::from(v);
     let next = wrapped(sum, POSITION_END);
     (next, next != sum)
 }
 
-// The microsteps of a target position, rounded down.
-#[tactic(auto, unfolding(crate::specs::Course::whole_steps))]
-pub fn whole_steps(p: i64) -> i32
-    requires { Within (2 ^ 46) p }
-    ensures is { result ≡ whole_steps p }
-    ensures range { Within (2 ^ 30) result }
+/// The microsteps of a target position, rounded down.
+#[tactic(auto, unfolding(crate::specs::Course::microsteps))]
+pub fn microsteps(p: i64) -> i32
+    requires { IsWithin (2 ^ 46) p }
+    ensures is { result ≡ microsteps p }
+    ensures range { IsWithin (2 ^ 30) result }
 {
     p.div_euclid(MICROSTEP) as i32
 }
 
-// From the target position to a destination in microsteps.
+/// From the target position to a destination in microsteps.
 #[tactic(auto, unfolding(crate::specs::Course::distance_to))]
 pub fn distance(destination: i32, p: i64) -> i64
-    requires destination { Within (2 ^ 30) destination }
-    requires position { Within (2 ^ 46) p }
+    requires destination { IsWithin (2 ^ 30) destination }
+    requires position { IsWithin (2 ^ 46) p }
     ensures is { result ≡ distance_to destination p }
     ensures range { unsigned_abs result < 2 ^ 47 }
 {
     MICROSTEP * i64::from(destination) - p
 }
 
-// The encoder's position after a count.
+/// The encoder's position after a count.
 pub fn counted(position: i32, count: i16) -> i32
-    requires { Within (2 ^ 30) position }
+    requires { IsWithin (2 ^ 30) position }
     ensures is { result ≡ counted position count }
-    ensures range { Within (2 ^ 30) result }
+    ensures range { IsWithin (2 ^ 30) result }
 {
     wrapped(i64::from(position) + i64::from(count), COUNT_END) as i32
 }

@@ -1,17 +1,17 @@
 ghost use Rattle.std.specs.Prelude.{◌≡◌, ◌+◌, ◌-◌, ◌^◌, ◌<◌, ◌≤◌, max, nat_le, ◌-ℤ◌, unsigned_abs};
-ghost use Rattle.motion.specs.Reach.{reach};
-ghost use Rattle.motion.specs.Speed.{largest, Largest};
-ghost use Rattle.motion.specs.Course.{pace, trapezoid};
+ghost use Rattle.motion.specs.StoppingDistance.{stopping_distance};
+ghost use Rattle.motion.specs.Speed.{largest, IsLargest};
+ghost use Rattle.motion.specs.Course.{next_speed, trapezoid};
 
-use crate::course::{along, halts, toward};
+use crate::course::{along, must_decelerate, toward};
 
 // The widest span that `bisect` takes: 29 halvings leave 1 of it.
 const SPAN: u32 = 1 << 29;
 
 const HALVINGS: u32 = 29;
 
-// By how much the speed of a gate may change in a cycle. Velocities and positions stay plain numbers: a gate's record holds them so, and a
-// call would only wrap them and take the answer out again.
+/// By how much the speed of a gate may change in a cycle. Velocities and positions stay plain numbers: a gate's record holds them so, and a
+/// call would only wrap them and take the answer out again.
 #[derive(Clone, Copy, PartialEq, Eq, Debug)]
 pub struct Rate {
     pub size: u32,
@@ -20,22 +20,23 @@ pub struct Rate {
 }
 
 impl Rate {
-    // The reach of a speed: the distance that a gate still travels if it runs at that speed now and then slows by the rate each cycle.
-    pub fn reach(self, speed: u32) -> u64
+    /// The stopping distance of a speed: the distance that a gate still travels if it runs at that speed now and then slows by the rate
+    /// each cycle.
+    pub fn stopping_distance(self, speed: u32) -> u64
         requires { speed < 2 ^ 30 }
-        ensures { result ≡ reach self.size speed }
+        ensures { result ≡ stopping_distance self.size speed }
     {
         let whole = u64::from(speed / self.size);
         let rest = u64::from(speed % self.size);
         (whole + 1) * (u64::from(speed) + rest) / 2
     }
 
-    // Whether a gate at that speed can still stop within the distance.
+    /// Whether a gate at that speed can still stop within the distance.
     pub fn fits(self, speed: u32, distance: u64) -> bool
         requires { speed < 2 ^ 30 }
-        ensures { result ≡ nat_le (reach self.size speed) distance }
+        ensures { result ≡ nat_le (stopping_distance self.size speed) distance }
     {
-        self.reach(speed) <= distance
+        self.stopping_distance(speed) <= distance
     }
 
     // Narrows a span whose low end fits and whose high end does not, by at most 29 questions.
@@ -44,11 +45,11 @@ impl Rate {
         requires order { low < high }
         requires speed { high < 2 ^ 30 }
         requires span { high ≤ low + 2 ^ 29 }
-        requires fits { reach self.size low ≤ distance }
-        requires over { distance < reach self.size high }
+        requires fits { stopping_distance self.size low ≤ distance }
+        requires over { distance < stopping_distance self.size high }
         ensures within { result < high }
-        ensures fits { reach self.size result ≤ distance }
-        ensures over { distance < reach self.size (result + 1) }
+        ensures fits { stopping_distance self.size result ≤ distance }
+        ensures over { distance < stopping_distance self.size (result + 1) }
     {
         for _turn in 0..HALVINGS {
             if high - low == 1 {
@@ -64,15 +65,15 @@ impl Rate {
         low
     }
 
-    // The greatest speed up to `top` whose reach is at most the distance, but at least the floor. The first question is the top. The second
-    // is whether more than the floor fits, so that a gate that slows all it can asks no third, unless the top lies more than SPAN above:
-    // then it is the speed that lies SPAN below the top. None asks more than 31.
-    #[tactic(auto, using(crate::proofs::Falling::reach_zero, crate::proofs::Fastest::largest_all, crate::proofs::Fastest::largest_below, crate::proofs::Fastest::largest_found))]
+    /// The greatest speed up to `top` whose stopping distance is at most the distance, but at least the floor. The first question is the
+    /// top. The second is whether more than the floor fits, so that a gate that slows all it can asks no third, unless the top lies more
+    /// than SPAN above: then it is the speed that lies SPAN below the top. None asks more than 31.
+    #[tactic(auto, using(crate::proofs::Falling::stopping_distance_zero, crate::proofs::Fastest::largest_all, crate::proofs::Fastest::largest_below, crate::proofs::Fastest::largest_found))]
     pub fn largest(self, distance: u64, floor: u32, top: u32) -> u32
         requires floor { floor < 2 ^ 30 }
         requires top { top < 2 ^ 30 }
         ensures is { result ≡ max (largest self.size distance top) floor }
-        ensures best { floor < result → Largest self.size distance top result }
+        ensures best { floor < result → IsLargest self.size distance top result }
     {
         if floor >= top {
             return floor;
@@ -92,18 +93,18 @@ impl Rate {
     }
 
     // The next speed of a gate that runs toward its destination, or stands.
-    #[tactic(auto, unfolding(crate::specs::Course::pace))]
-    fn pace(self, speed: u32, top: u32, distance: u64) -> u32
+    #[tactic(auto, unfolding(crate::specs::Course::next_speed))]
+    fn next_speed(self, speed: u32, top: u32, distance: u64) -> u32
         requires speed { speed < 2 ^ 30 }
         requires top { top < 2 ^ 30 }
-        ensures is { result ≡ pace speed top self.size distance }
+        ensures is { result ≡ next_speed speed top self.size distance }
         ensures range { result < 2 ^ 30 }
     {
         let slowed = speed.saturating_sub(self.size);
         self.largest(distance, slowed, top.min(speed + self.size))
     }
 
-    // The next velocity on the way to a destination at the distance. A gate that can stop within the distance still can after this cycle.
+    /// The next velocity on the way to a destination at the distance. A gate that can stop within the distance still can after this cycle.
     #[inline(always)]
     pub fn trapezoid(self, v: i32, top: u32, distance: i64) -> i32
         requires speed { unsigned_abs v < 2 ^ 30 }
@@ -111,13 +112,15 @@ impl Rate {
         ensures is { result ≡ trapezoid v top self.size distance }
         ensures size { unsigned_abs result ≤ max (unsigned_abs v) top }
         ensures step { unsigned_abs (result -ℤ v) ≤ self.size }
-        ensures stops { reach self.size (unsigned_abs v - self.size) ≤ unsigned_abs distance → unsigned_abs result + reach self.size (unsigned_abs result - self.size) ≤ unsigned_abs distance }
+        ensures stops { stopping_distance self.size (unsigned_abs v - self.size) ≤
+            unsigned_abs distance →
+            unsigned_abs result + stopping_distance self.size (unsigned_abs result - self.size) ≤ unsigned_abs distance }
         ensures range { unsigned_abs result < 2 ^ 30 }
     {
-        if halts(v, distance) {
+        if must_decelerate(v, distance) {
             return toward(v, 0, self.size);
         }
-        let speed = self.pace(v.unsigned_abs(), top, distance.unsigned_abs());
+        let speed = self.next_speed(v.unsigned_abs(), top, distance.unsigned_abs());
         along(distance, speed)
     }
 }

@@ -1,12 +1,12 @@
-use crate::course::{advanced, counted, cruise, distance, toward, whole_steps};
+use crate::course::{advanced, counted, cruise, distance, microsteps, toward};
 use crate::rate::Rate;
 
 #[test]
 fn reaches(rt: HostRuntime) {
-    assert_eq!(rt; Rate { size: 16_384 }.reach(32_768), 49_152);
-    assert_eq!(rt; Rate { size: 65_535 }.reach(65_535), 65_535);
+    assert_eq!(rt; Rate { size: 16_384 }.stopping_distance(32_768), 49_152);
+    assert_eq!(rt; Rate { size: 65_535 }.stopping_distance(65_535), 65_535);
     assert_eq!(rt;
-        Rate { size: 7 }.reach(1_073_741_823),
+        Rate { size: 7 }.stopping_distance(1_073_741_823),
         82_351_536_426_825_435
     );
     assert!(rt; Rate { size: 16_384 }.fits(32_768, 49_152));
@@ -98,8 +98,8 @@ fn positions(rt: HostRuntime) {
         (70_368_744_177_663, true)
     );
     assert_eq!(rt; advanced(5, -7), (-2, false));
-    assert_eq!(rt; whole_steps(-1), -1);
-    assert_eq!(rt; whole_steps(131_071), 1);
+    assert_eq!(rt; microsteps(-1), -1);
+    assert_eq!(rt; microsteps(131_071), 1);
     assert_eq!(rt; distance(-3, 65_536), -262_144);
     assert_eq!(rt; counted(1_073_741_823, 1), -1_073_741_824);
     assert_eq!(rt; counted(-1_073_741_824, -32_768), 1_073_709_056);

@@ -4,10 +4,12 @@ use lib.Seq.{take-append-add}
 use Rattle.stage.specs.declared.Stage.{Ghosts}
 use Rattle.replay.specs.declared.fault.Fault.{Fault}
 use Rattle.replay.specs.Numbers.{eight_bytes}
-use Rattle.replay.specs.Replays.{AnsweredBy, Filled, Answered}
+use Rattle.replay.specs.Replays.{IsAnsweredBy, FillsRoom, AnswersList}
 
 -- a head of 8 bytes in front of the room that was filled
-pub framed : {S R : Type 0} (m : Ghosts S) (n : Ghosts R) (xs out room last head : List ℕ) (count : ℕ) (r s : Result (Unit {0}) Fault) → length room + 8 ≡ length out → head ≡ eight_bytes count → r ≡ s → Filled m n xs room last count r → Answered m n xs out (head ++ last) s
+pub framed : {S R : Type 0} (m : Ghosts S) (n : Ghosts R) (xs out room last head : List ℕ) (count : ℕ) (r s : Result (Unit {0}) Fault)
+    → length room + 8 ≡ length out → head ≡ eight_bytes count → r ≡ s → FillsRoom m n xs room last count r
+    → AnswersList m n xs out (head ++ last) s
 framed m n xs out room last head count r s size says same f =
     let bytes = f.0 in
     let room_is : length room ≡ length out - 8 = omega arith in
@@ -16,7 +18,7 @@ framed m n xs out room last head count r s size says same f =
     let kept = f.2 in
     let said : take (length bytes) last ≡ bytes = ap (λ j. take j last) (sym f.3) ∙ f.4 in (
       bytes,
-      subst (λ k. AnsweredBy m n xs k bytes s) room_is (subst (λ e. AnsweredBy m n xs (length room) bytes e) same f.1),
+      subst (λ k. IsAnsweredBy m n xs k bytes s) room_is (subst (λ e. IsAnsweredBy m n xs (length room) bytes e) same f.1),
       omega (arith, length-append head last),
       ap (λ z. take (8 + length bytes) (z ++ last)) says_all ∙ (take-append-add (eight_bytes (length bytes)) last (length bytes) ∙ ap (λ z. eight_bytes (length bytes) ++ z) said),
     )

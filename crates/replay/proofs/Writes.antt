@@ -1,9 +1,9 @@
 -- One write after another.
 use Rattle.std.proofs.Common.{◌≡◌, ℕ, ◌+◌, ◌-◌, ◌<◌, List, ◌++◌, length, take, sym, ap, ◌∙◌, subst, append_assoc, add_assoc, arith, length-append}
 use Rattle.replay.specs.declared.out.Out.{Out}
-use Rattle.replay.specs.Written.{Wrote, Full}
+use Rattle.replay.specs.Written.{Appends, HasNoRoom}
 
-pub both : {o p q : Out} {a b : List ℕ} → Wrote o p a → Wrote p q b → Wrote o q (a ++ b)
+pub both : {o p q : Out} {a b : List ℕ} → Appends o p a → Appends p q b → Appends o q (a ++ b)
 both {o = o} {p = p} {q = q} {a = a} {b = b} x y =
     record {
       len = y.len ∙ (ap (λ n. n + length b) x.len ∙ (add_assoc o.len (length a) (length b) ∙ ap (λ n. o.len + n) (sym (length-append a b))));
@@ -13,11 +13,11 @@ both {o = o} {p = p} {q = q} {a = a} {b = b} x y =
     }
 
 -- the same bytes, in another form
-pub being : {o p : Out} {a b : List ℕ} → Wrote o p a → a ≡ b → Wrote o p b
-being {o = o} {p = p} x e = subst (λ z. Wrote o p z) e x
+pub being : {o p : Out} {a b : List ℕ} → Appends o p a → a ≡ b → Appends o p b
+being {o = o} {p = p} x e = subst (λ z. Appends o p z) e x
 
 -- a write that found no room
-pub filled : {o q p : Out} {a b : List ℕ} → Wrote o q a → Full q p b → Wrote o p a
+pub filled : {o q p : Out} {a b : List ℕ} → Appends o q a → HasNoRoom q p b → Appends o p a
 filled {q = q} {p = p} x y =
     record {
       len = y.len ∙ x.len;
@@ -26,5 +26,5 @@ filled {q = q} {p = p} x y =
       lent = y.lent ∙ x.lent;
     }
 
-pub crowded : {o q p : Out} {a b : List ℕ} → Wrote o q a → Full q p b → length o.bytes.now - o.len < length (a ++ b)
+pub crowded : {o q p : Out} {a b : List ℕ} → Appends o q a → HasNoRoom q p b → length o.bytes.now - o.len < length (a ++ b)
 crowded {o = o} {a = a} {b = b} x y = omega (arith, o.within, x.len, x.size, y.short, length-append a b)

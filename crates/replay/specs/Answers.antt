@@ -3,7 +3,7 @@ use Rattle.std.specs.Prelude.{ℕ, List, [], ◌∷◌, Ok, Err, Result}
 use Rattle.stage.specs.declared.Stage.{Ghosts}
 use Rattle.board.specs.declared.board.Board.{Board}
 use Rattle.board.specs.declared.refusal.Refusal.{Refusal}
-use Rattle.board.specs.Refusals.{number}
+use Rattle.board.specs.Refusals.{refusal_number}
 use Rattle.replay.specs.declared.answer.Answer.{Answer}
 use Rattle.replay.specs.declared.answer.Answer.TheVariants.{Accepted, Word, Slip, NoSlip, Look}
 use Rattle.replay.specs.Numbers.{two_bytes}
@@ -15,4 +15,4 @@ answer_bytes m (Ok (Word w)) b = 0x10 ∷ two_bytes w
 answer_bytes m (Ok (Slip gate)) b = 0x11 ∷ gate ∷ []
 answer_bytes m (Ok NoSlip) b = 0x12 ∷ []
 answer_bytes m (Ok Look) b = look_bytes m b
-answer_bytes m (Err e) b = number e ∷ []
+answer_bytes m (Err e) b = refusal_number e ∷ []

@@ -29,15 +29,15 @@ code_of Look = 8
 code_of (Run n) = 9
 
 -- what board b adds to it
-abbrev pub side_of : Side → ℕ
-side_of side.A = 0
-side_of side.B = 0x80
+abbrev pub side_bit : Side → ℕ
+side_bit side.A = 0
+side_bit side.B = 0x80
 
-abbrev pub switches : Inputs → ℕ
-switches i = cond i.positive 1 0 + cond i.negative 2 0 + cond i.home 4 0
+abbrev pub switch_bits : Inputs → ℕ
+switch_bits i = cond i.positive 1 0 + cond i.negative 2 0 + cond i.home 4 0
 
 abbrev pub input_bytes : Inputs → List ℕ
-input_bytes i = two_bytes (of_z w16 i.count) ++ (switches i ∷ [])
+input_bytes i = two_bytes (of_z w16 i.count) ++ (switch_bits i ∷ [])
 
 abbrev pub operand_bytes : Entry → List ℕ
 operand_bytes (Command code) = code ∷ []
@@ -52,41 +52,42 @@ operand_bytes Look = []
 operand_bytes (Run n) = two_bytes n
 
 -- the bytes of an entry
-abbrev pub coded : Side → Entry → List ℕ
-coded s e = (code_of e + side_of s) ∷ operand_bytes e
+abbrev pub entry_bytes : Side → Entry → List ℕ
+entry_bytes s e = (code_of e + side_bit s) ∷ operand_bytes e
 
 -- a slip is closed for a gate that there is
-abbrev pub Good : Entry → Type 0
-Good (Command code) = Unit {0}
-Good (Write w) = Unit {0}
-Good Read = Unit {0}
-Good (Cycle i j) = Unit {0}
-Good Reset = Unit {0}
-Good Take = Unit {0}
-Good (Close c) = is_gate c.gate ≡ true
-Good (CloseElsewhere c) = is_gate c.gate ≡ true
-Good Look = Unit {0}
-Good (Run n) = Unit {0}
+abbrev pub IsValid : Entry → Type 0
+IsValid (Command code) = Unit {0}
+IsValid (Write w) = Unit {0}
+IsValid Read = Unit {0}
+IsValid (Cycle i j) = Unit {0}
+IsValid Reset = Unit {0}
+IsValid Take = Unit {0}
+IsValid (Close c) = is_gate c.gate ≡ true
+IsValid (CloseElsewhere c) = is_gate c.gate ≡ true
+IsValid Look = Unit {0}
+IsValid (Run n) = Unit {0}
 
 -- whether an entry begins with a byte, at board a
-abbrev pub known : ℕ → Bool
-known code = nat_lt code 10
+abbrev pub is_known_code : ℕ → Bool
+is_known_code code = nat_lt code 10
 
 -- how many bytes it takes
-abbrev pub size : ℕ → ℕ
-size code =
+abbrev pub entry_size : ℕ → ℕ
+entry_size code =
     cond (code == 0) 2 (cond (code == 3) 7 (cond (code == 1 || code == 9) 3 (cond (code == 6 || code == 7) 4 1)))
 
 -- whether the operands that a list begins with are in their ranges: no switch bit from 3 on, a gate that there is
-abbrev pub in_range : ℕ → List ℕ → Bool
-in_range code xs =
-    cond (code == 3) (nat_lt (slice_index xs 2) 8 && nat_lt (slice_index xs 5) 8) (cond (code == 6 || code == 7) (is_gate (slice_index xs 0)) true)
+abbrev pub has_operands_in_range : ℕ → List ℕ → Bool
+has_operands_in_range code xs =
+    cond (code == 3) (nat_lt (slice_index xs 2) 8 && nat_lt (slice_index xs 5) 8)
+    (cond (code == 6 || code == 7) (is_gate (slice_index xs 0)) true)
 
 -- an entry's operands, by its code, and the rest of the list that they stand in
 pub record Carries (code : ℕ) (xs : List ℕ) (e : Entry) (rest : List ℕ) : Type 0 where
-  pub says : code_of e ≡ code
+  pub code_is : code_of e ≡ code
   pub holds : xs ≡ operand_bytes e ++ rest
-  pub good : Good e
+  pub good : IsValid e
 
 -- the same of a slip to close
 pub record CarriesClosing (xs : List ℕ) (c : Closing) (rest : List ℕ) : Type 0 where
@@ -95,14 +96,14 @@ pub record CarriesClosing (xs : List ℕ) (c : Closing) (rest : List ℕ) : Type
 
 -- the first fault of a code and of the list that its operands should begin
 abbrev pub FailsAt : ℕ → List ℕ → Fault → Type 0
-FailsAt code xs Unknown = known code ≡ false
-FailsAt code xs CutShort = (known code ≡ true) × (1 + length xs < size code)
-FailsAt code xs Operand = (known code ≡ true) × (size code ≤ 1 + length xs) × (in_range code xs ≡ false)
+FailsAt code xs Unknown = is_known_code code ≡ false
+FailsAt code xs CutShort = (is_known_code code ≡ true) × (1 + length xs < entry_size code)
+FailsAt code xs Operand = (is_known_code code ≡ true) × (entry_size code ≤ 1 + length xs) × (has_operands_in_range code xs ≡ false)
 FailsAt code xs NoRoom = ⊥
 
 -- a list begins with all the bytes of a step, and the rest stands behind them
 abbrev pub Begins : List ℕ → Step → List ℕ → Type 0
-Begins xs s rest = (xs ≡ coded s.side s.entry ++ rest) × Good s.entry
+Begins xs s rest = (xs ≡ entry_bytes s.side s.entry ++ rest) × IsValid s.entry
 
 -- the first fault of a list that begins with no step
 abbrev pub Fails : List ℕ → Fault → Type 0
@@ -110,6 +111,6 @@ Fails [] f = ⊥
 Fails (x ∷ xs) f = FailsAt (x % 128) xs f
 
 -- what a list is read as: the step that it begins with, and the rest; or the first fault that there is
-abbrev pub Reads : List ℕ → Result (Step × Bor (List ℕ)) Fault → Type 0
-Reads xs (Ok p) = Begins xs p.0 p.1.now
-Reads xs (Err f) = Fails xs f
+abbrev pub ReadsStep : List ℕ → Result (Step × Bor (List ℕ)) Fault → Type 0
+ReadsStep xs (Ok p) = Begins xs p.0 p.1.now
+ReadsStep xs (Err f) = Fails xs f

@@ -3,8 +3,8 @@ use Rattle.std.specs.Prelude.{ℕ}
 use Rattle.replay.specs.declared.fault.Fault.{Fault}
 use Rattle.replay.specs.declared.fault.Fault.TheVariants.{Unknown, CutShort, Operand, NoRoom}
 
-abbrev pub number : Fault → ℕ
-number Unknown = 1
-number CutShort = 2
-number Operand = 3
-number NoRoom = 4
+abbrev pub fault_number : Fault → ℕ
+fault_number Unknown = 1
+fault_number CutShort = 2
+fault_number Operand = 3
+fault_number NoRoom = 4

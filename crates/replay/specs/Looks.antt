@@ -37,34 +37,35 @@ abbrev pub motor_byte : MotorKind → ℕ
 motor_byte TwoPhase = 0
 motor_byte ThreePhase = 1
 
-abbrev pub flag : Bool → ℕ
-flag b = cond b 1 0
+abbrev pub flag_byte : Bool → ℕ
+flag_byte b = cond b 1 0
 
-abbrev pub signed_four : ℤ → List ℕ
-signed_four z = four_bytes (of_z w32 z)
+abbrev pub signed_four_bytes : ℤ → List ℕ
+signed_four_bytes z = four_bytes (of_z w32 z)
 
 abbrev pub pair_bytes : Pair → List ℕ
-pair_bytes p = signed_four p.0 ++ signed_four p.1
+pair_bytes p = signed_four_bytes p.0 ++ signed_four_bytes p.1
 
 abbrev pub profile_bytes : Profile → List ℕ
-profile_bytes p = signed_four p.destination ++ (four_bytes p.velocity ++ (signed_four p.acceleration ++ (mode_byte p.mode ∷ [])))
+profile_bytes p =
+    signed_four_bytes p.destination ++ (four_bytes p.velocity ++ (signed_four_bytes p.acceleration ++ (mode_byte p.mode ∷ [])))
 
 abbrev pub motion_bytes : Motion → List ℕ
-motion_bytes m = eight_bytes (of_z w64 m.target) ++ (signed_four m.velocity ++ (flag m.halted ∷ flag m.rested ∷ []))
+motion_bytes m = eight_bytes (of_z w64 m.target) ++ (signed_four_bytes m.velocity ++ (flag_byte m.halted ∷ flag_byte m.rested ∷ []))
 
 abbrev pub breakpoint_bytes : Breakpoint → List ℕ
-breakpoint_bytes b = break_byte b.mode ∷ (four_bytes b.point ++ (flag b.auto ∷ []))
+breakpoint_bytes b = break_byte b.mode ∷ (four_bytes b.point ++ (flag_byte b.auto ∷ []))
 
 -- event bits, mask, detectors, kind of motor, slip mark, clock
 abbrev pub flags_bytes : Gate → List ℕ
 flags_bytes g =
     events_word g.events ∷ (two_bytes g.mask
-    ++ (flag g.detectors.positive ∷ flag g.detectors.negative ∷ motor_byte g.kind ∷ flag g.slip ∷ four_bytes g.clock.cycles))
+    ++ (flag_byte g.detectors.positive ∷ flag_byte g.detectors.negative ∷ motor_byte g.kind ∷ flag_byte g.slip ∷ four_bytes g.clock.cycles))
 
 abbrev pub record_bytes : Gate → List ℕ
 record_bytes g =
     profile_bytes g.buffered ++ (profile_bytes g.active ++ (two_bytes g.powers.buffered ++ (two_bytes g.powers.active
-    ++ (motion_bytes g.motion ++ (signed_four g.actual ++ (breakpoint_bytes g.breakpoint ++ flags_bytes g))))))
+    ++ (motion_bytes g.motion ++ (signed_four_bytes g.actual ++ (breakpoint_bytes g.breakpoint ++ flags_bytes g))))))
 
 -- the byte that says a look, the pairs, the record of gate 1, that of gate 2
 abbrev pub look_bytes : {S : Type 0} (m : Ghosts S) → Board S m → List ℕ

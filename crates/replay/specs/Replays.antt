@@ -3,7 +3,7 @@ use Rattle.std.specs.Prelude.{◌≡◌, ℕ, ◌+◌, ◌-◌, ◌<◌, List, [
 use Rattle.stage.specs.declared.Stage.{Ghosts}
 use Rattle.board.specs.declared.board.Board.{Board}
 use Rattle.board.specs.declared.refusal.Refusal.{Refusal}
-use Rattle.board.specs.Runs.{Came}
+use Rattle.board.specs.Runs.{ReachedBy}
 use Rattle.desk.specs.declared.side.Side.{Side}
 use Rattle.desk.specs.declared.side.Side.TheVariants as side
 use Rattle.replay.specs.declared.answer.Answer.{Answer}
@@ -15,66 +15,69 @@ use Rattle.replay.specs.declared.out.Out.{Out}
 use Rattle.replay.specs.Answers.{answer_bytes}
 use Rattle.replay.specs.Entries.{Begins, Fails}
 use Rattle.replay.specs.Numbers.{eight_bytes}
-use Rattle.replay.specs.Plays.{Plays}
-use Rattle.replay.specs.Written.{Written, Wrote}
+use Rattle.replay.specs.Plays.{PlaysEntry}
+use Rattle.replay.specs.Written.{AppendsOrNone, Appends}
 
 -- board a goes from a to c, board b from b to d
 module _ {S R : Type 0} (m : Ghosts S) (n : Ghosts R) where
   -- an entry is played at its board, and answered by the bytes
-  abbrev pub Turn : Side → Entry → Board S m → Board S m → Board R n → Board R n → List ℕ → Type 0
-  Turn side.A e a c b d bytes = (x : Result Answer Refusal) × Plays m n e x a c b d × (bytes ≡ answer_bytes m x c)
-  Turn side.B e a c b d bytes = (x : Result Answer Refusal) × Plays n m e x b d a c × (bytes ≡ answer_bytes n x d)
+  abbrev pub PlaysStep : Side → Entry → Board S m → Board S m → Board R n → Board R n → List ℕ → Type 0
+  PlaysStep side.A e a c b d bytes = (x : Result Answer Refusal) × PlaysEntry m n e x a c b d × (bytes ≡ answer_bytes m x c)
+  PlaysStep side.B e a c b d bytes = (x : Result Answer Refusal) × PlaysEntry n m e x b d a c × (bytes ≡ answer_bytes n x d)
 
   -- the same, with the writer
-  abbrev pub Turned : Side → Entry → Board S m → Board S m → Board R n → Board R n → Out → Out → Result (Unit {0}) Fault → Type 0
-  Turned s e a c b d o p r = (bytes : List ℕ) × Turn s e a c b d bytes × Written o p bytes r
+  abbrev pub PlaysStepInto : Side → Entry → Board S m → Board S m → Board R n → Board R n → Out → Out → Result (Unit {0}) Fault → Type 0
+  PlaysStepInto s e a c b d o p r = (bytes : List ℕ) × PlaysStep s e a c b d bytes × AppendsOrNone o p bytes r
 
   module _ (xs : List ℕ) (a : Board S m) (b : Board R n) where
     -- steps that the list begins with are played one after another, and answered by the bytes; of the steps the newest stands first, and
     -- the rest of the list stands behind it
-    abbrev pub Played : List Step → List ℕ → Board S m → Board R n → List ℕ → Type 0
-    Played [] rest c d bytes = (rest ≡ xs) × (c ≡ a) × (d ≡ b) × (bytes ≡ [])
-    Played (s ∷ ss) rest c d bytes =
-        (before : List ℕ) × (g : Board S m) × (h : Board R n) × (old : List ℕ) × (more : List ℕ) × Played ss before g h old × Begins before s rest
-        × Turn s.side s.entry g c h d more × (bytes ≡ old ++ more)
+    abbrev pub PlaysSteps : List Step → List ℕ → Board S m → Board R n → List ℕ → Type 0
+    PlaysSteps [] rest c d bytes = (rest ≡ xs) × (c ≡ a) × (d ≡ b) × (bytes ≡ [])
+    PlaysSteps (s ∷ ss) rest c d bytes =
+        (before : List ℕ) × (g : Board S m) × (h : Board R n) × (old : List ℕ) × (more : List ℕ) × PlaysSteps ss before g h old
+        × Begins before s rest
+        × PlaysStep s.side s.entry g c h d more × (bytes ≡ old ++ more)
 
     -- a fault stands behind the steps that were played
-    abbrev pub Stopped : Fault → List Step → Board S m → Board R n → List ℕ → Type 0
-    Stopped f ss c d bytes = (rest : List ℕ) × Played ss rest c d bytes × Fails rest f
+    abbrev pub StopsAtFault : Fault → List Step → Board S m → Board R n → List ℕ → Type 0
+    StopsAtFault f ss c d bytes = (rest : List ℕ) × PlaysSteps ss rest c d bytes × Fails rest f
 
     -- how a list ends that is answered within so much room: it is played to its end; or up to a fault; or up to a step that is played
     -- behind those answered, and whose own answer has no room
-    abbrev pub Ended : Result (Unit {0}) Fault → List Step → Board S m → Board R n → List ℕ → ℕ → Type 0
-    Ended (Ok u) ss c d bytes room = Played ss [] c d bytes
-    Ended (Err Unknown) ss c d bytes room = Stopped Unknown ss c d bytes
-    Ended (Err CutShort) ss c d bytes room = Stopped CutShort ss c d bytes
-    Ended (Err Operand) ss c d bytes room = Stopped Operand ss c d bytes
-    Ended (Err NoRoom) ss c d bytes room =
-        (s : Step) × (before : List ℕ) × (rest : List ℕ) × (g : Board S m) × (h : Board R n) × (more : List ℕ) × Played ss before g h bytes
-        × Begins before s rest × Turn s.side s.entry g c h d more × (room < length (bytes ++ more))
+    abbrev pub EndsList : Result (Unit {0}) Fault → List Step → Board S m → Board R n → List ℕ → ℕ → Type 0
+    EndsList (Ok u) ss c d bytes room = PlaysSteps ss [] c d bytes
+    EndsList (Err Unknown) ss c d bytes room = StopsAtFault Unknown ss c d bytes
+    EndsList (Err CutShort) ss c d bytes room = StopsAtFault CutShort ss c d bytes
+    EndsList (Err Operand) ss c d bytes room = StopsAtFault Operand ss c d bytes
+    EndsList (Err NoRoom) ss c d bytes room =
+        (s : Step) × (before : List ℕ) × (rest : List ℕ) × (g : Board S m) × (h : Board R n) × (more : List ℕ)
+        × PlaysSteps ss before g h bytes
+        × Begins before s rest × PlaysStep s.side s.entry g c h d more × (room < length (bytes ++ more))
 
     -- the same, with the writer
-    abbrev pub Replayed : Board S m → Board R n → Out → Out → Result (Unit {0}) Fault → Type 0
-    Replayed c d o p r = (ss : List Step) × (bytes : List ℕ) × Ended r ss c d bytes (length o.bytes.now - o.len) × Wrote o p bytes
+    abbrev pub ReplaysInto : Board S m → Board R n → Out → Out → Result (Unit {0}) Fault → Type 0
+    ReplaysInto c d o p r = (ss : List Step) × (bytes : List ℕ) × EndsList r ss c d bytes (length o.bytes.now - o.len) × Appends o p bytes
 
   -- a list is played against two new boards, and answered within so much room by the bytes
-  pub record AnsweredBy (xs : List ℕ) (room : ℕ) (bytes : List ℕ) (r : Result (Unit {0}) Fault) : Type 0 where
+  pub record IsAnsweredBy (xs : List ℕ) (room : ℕ) (bytes : List ℕ) (r : Result (Unit {0}) Fault) : Type 0 where
     pub board_a : Board S m
     pub board_b : Board R n
-    pub new_a : Came m [] board_a
-    pub new_b : Came n [] board_b
+    pub new_a : ReachedBy m [] board_a
+    pub new_b : ReachedBy n [] board_b
     pub last_a : Board S m
     pub last_b : Board R n
     pub steps : List Step
-    pub ended : Ended xs board_a board_b r steps last_a last_b bytes room
+    pub ended : EndsList xs board_a board_b r steps last_a last_b bytes room
 
   -- the answers, so many bytes, stand at the beginning of the room
-  abbrev pub Filled : List ℕ → List ℕ → List ℕ → ℕ → Result (Unit {0}) Fault → Type 0
-  Filled xs room last count r =
-      (bytes : List ℕ) × AnsweredBy xs (length room) bytes r × (length last ≡ length room) × (count ≡ length bytes) × (take count last ≡ bytes)
+  abbrev pub FillsRoom : List ℕ → List ℕ → List ℕ → ℕ → Result (Unit {0}) Fault → Type 0
+  FillsRoom xs room last count r =
+      (bytes : List ℕ) × IsAnsweredBy xs (length room) bytes r × (length last ≡ length room) × (count ≡ length bytes)
+      × (take count last ≡ bytes)
 
   -- the answers stand behind 8 bytes that say how many they are
-  abbrev pub Answered : List ℕ → List ℕ → List ℕ → Result (Unit {0}) Fault → Type 0
-  Answered xs out last r =
-      (bytes : List ℕ) × AnsweredBy xs (length out - 8) bytes r × (length last ≡ length out)
+  abbrev pub AnswersList : List ℕ → List ℕ → List ℕ → Result (Unit {0}) Fault → Type 0
+  AnswersList xs out last r =
+      (bytes : List ℕ) × IsAnsweredBy xs (length out - 8) bytes r × (length last ≡ length out)
       × (take (8 + length bytes) last ≡ eight_bytes (length bytes) ++ bytes)

@@ -7,25 +7,25 @@ use Rattle.stage.specs.declared.pwm.Lines.{Lines}
 use Rattle.stage.specs.declared.wiring.Wiring.{Wiring}
 use Rattle.stage.specs.Dac.{dac_pairs}
 use Rattle.stage.specs.Pwm.{pwm_pairs}
-use Rattle.stage.specs.Wiring.{undone_pairs}
+use Rattle.stage.specs.Wiring.{unwired_pairs}
 use Rattle.replay.specs.declared.fault.Fault.{Fault}
 use Rattle.replay.specs.declared.fault.Fault.TheVariants.{NoRoom}
-use Rattle.replay.specs.Faults.{number}
-use Rattle.replay.specs.Replays.{Answered}
+use Rattle.replay.specs.Faults.{fault_number}
+use Rattle.replay.specs.Replays.{AnswersList}
 
 -- the stages of board a and of board b
 abbrev pub stage_a : Ghosts (Levels Word)
 stage_a = record { STEP = 1; pairs = dac_pairs }
 
 abbrev pub stage_b : Ghosts (Wiring (Levels Lines))
-stage_b = record { STEP = 128; pairs = λ s. undone_pairs s.one s.two (pwm_pairs s.below) }
+stage_b = record { STEP = 128; pairs = λ s. unwired_pairs s.one s.two (pwm_pairs s.below) }
 
-abbrev pub returned : Result (Unit {0}) Fault → ℕ
-returned (Ok u) = 0
-returned (Err f) = number f
+abbrev pub return_code : Result (Unit {0}) Fault → ℕ
+return_code (Ok u) = 0
+return_code (Err f) = fault_number f
 
 -- `out` has no room for the first 8 bytes, and nothing is done; or the list is played
 abbrev pub Returns : List ℕ → List ℕ → List ℕ → ℕ → Type 0
 Returns xs out last r =
-    ((length out < 8) × (r ≡ number NoRoom) × (last ≡ out))
-    ⊎ ((8 ≤ length out) × ((e : Result (Unit {0}) Fault) × (r ≡ returned e) × Answered stage_a stage_b xs out last e))
+    ((length out < 8) × (r ≡ fault_number NoRoom) × (last ≡ out))
+    ⊎ ((8 ≤ length out) × ((e : Result (Unit {0}) Fault) × (r ≡ return_code e) × AnswersList stage_a stage_b xs out last e))

@@ -1,6 +1,6 @@
 ghost use Rattle.std.specs.Prelude.{Ok};
 ghost use Rattle.replay.specs.Answers.{answer_bytes};
-ghost use Rattle.replay.specs.Written.{Written};
+ghost use Rattle.replay.specs.Written.{AppendsOrNone};
 
 use crate::fault::Fault;
 use crate::look::put_look;
@@ -8,7 +8,7 @@ use crate::out::Out;
 use board::board::Board;
 use stage::Stage;
 
-// What is answered to an entry that is not refused.
+/// What is answered to an entry that is not refused.
 #[derive(Clone, Copy)]
 pub enum Answer {
     Accepted,
@@ -22,9 +22,9 @@ pub enum Answer {
 }
 
 impl Answer {
-    // Writes an answer of a board.
+    /// Writes an answer of a board.
     pub fn put<S: Stage + Drop>(self, board: &Board<S>, out: &mut Out<'_>) -> Result<(), Fault>
-        ensures { Written out.old out.new (answer_bytes S.Stage (Ok self) board.now) result }
+        ensures { AppendsOrNone out.old out.new (answer_bytes S.Stage (Ok self) board.now) result }
     {
         match self {
             Answer::Accepted => out.write(&[0]),

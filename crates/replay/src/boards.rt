@@ -1,6 +1,6 @@
 ghost use Rattle.std.specs.Prelude.{[]};
-ghost use Rattle.board.specs.Runs.{Came};
-ghost use Rattle.replay.specs.Replays.{Turned, Replayed};
+ghost use Rattle.board.specs.Runs.{ReachedBy};
+ghost use Rattle.replay.specs.Replays.{PlaysStepInto, ReplaysInto};
 
 use crate::entry::{Entry, Step};
 use crate::fault::Fault;
@@ -10,8 +10,8 @@ use desk::desk::Desk;
 use desk::side::Side;
 use stage::Stage;
 
-// The two boards that a list is played against, each at its desk. The slips that are left when they go are closed. A script's boards keep
-// the one that a line goes to besides; an entry of a list names its own.
+/// The two boards that a list is played against, each at its desk. The slips that are left when they go are closed. A script's boards keep
+/// the one that a line goes to besides; an entry of a list names its own.
 pub struct Boards<S: Stage + Drop, R: Stage + Drop> {
     pub a: Desk<S>,
     pub b: Desk<R>,
@@ -33,7 +33,8 @@ fn turn<S: Stage + Drop, R: Stage + Drop>(
     entry: Entry,
     out: &mut Out<'_>,
 ) -> Result<(), Fault>
-    ensures { Turned S.Stage R.Stage Side.A entry own.old.board own.new.board other.old.board other.new.board out.old out.new result }
+    ensures { PlaysStepInto S.Stage R.Stage Side.A entry own.old.board own.new.board other.old.board
+        other.new.board out.old out.new result }
 {
     match play(own, other, entry) {
         Ok(answer) => answer.put(own.board(), out),
@@ -42,10 +43,10 @@ fn turn<S: Stage + Drop, R: Stage + Drop>(
 }
 
 impl<S: Stage + Drop, R: Stage + Drop> Boards<S, R> {
-    // Two new boards.
+    /// Two new boards.
     pub fn new(one: S, two: R) -> Boards<S, R>
-        ensures a { Came S.Stage [] result.a.board }
-        ensures b { Came R.Stage [] result.b.board }
+        ensures a { ReachedBy S.Stage [] result.a.board }
+        ensures b { ReachedBy R.Stage [] result.b.board }
     {
         Boards {
             a: Desk::new(one),
@@ -55,7 +56,8 @@ impl<S: Stage + Drop, R: Stage + Drop> Boards<S, R> {
 
     // Plays a step at its board and writes its answer.
     fn turn(&mut self, step: Step, out: &mut Out<'_>) -> Result<(), Fault>
-        ensures { Turned S.Stage R.Stage step.side step.entry self.old.a.board self.new.a.board self.old.b.board self.new.b.board out.old out.new result }
+        ensures { PlaysStepInto S.Stage R.Stage step.side step.entry self.old.a.board
+            self.new.a.board self.old.b.board self.new.b.board out.old out.new result }
     {
         match step.side {
             Side::A => turn(&mut self.a, &mut self.b, step.entry, out),
@@ -63,9 +65,10 @@ impl<S: Stage + Drop, R: Stage + Drop> Boards<S, R> {
         }
     }
 
-    // Plays the entries of a list, one after another, and writes their answers.
+    /// Plays the entries of a list, one after another, and writes their answers.
     pub fn play(&mut self, list: &[u8], out: &mut Out<'_>) -> Result<(), Fault>
-        ensures { Replayed S.Stage R.Stage list.now self.old.a.board self.old.b.board self.new.a.board self.new.b.board out.old out.new result }
+        ensures { ReplaysInto S.Stage R.Stage list.now self.old.a.board self.old.b.board
+            self.new.a.board self.new.b.board out.old out.new result }
     {
         let mut rest = list;
         while let [first, operands @ ..] = rest {

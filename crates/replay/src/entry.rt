@@ -1,20 +1,20 @@
 ghost use Rattle.std.specs.Prelude.{◌≡◌, ◌<◌, false, ◌∷◌, [], ◌++◌, length, MatchResult, nat_lt};
 ghost use Rattle.replay.specs.declared.fault.Fault.TheVariants.{CutShort, Operand};
-ghost use Rattle.replay.specs.Entries.{input_bytes, Reads, CarriesClosing, Carries, FailsAt};
+ghost use Rattle.replay.specs.Entries.{input_bytes, ReadsStep, CarriesClosing, Carries, FailsAt};
 ghost use Rattle.replay.specs.Numbers.{two_bytes};
 
 use crate::fault::Fault;
 use desk::side::Side;
 use gate::inputs::Inputs;
 
-// A gate's number, 1 or 2, and the word that its slip is closed with.
+/// A gate's number, 1 or 2, and the word that its slip is closed with.
 #[derive(Clone, Copy)]
 pub struct Closing {
     pub gate: u8,
     pub word: u16,
 }
 
-// What an entry of a list asks for.
+/// What an entry of a list asks for.
 #[derive(Clone, Copy)]
 pub enum Entry {
     Command(u8),
@@ -29,7 +29,7 @@ pub enum Entry {
     Run(u16),
 }
 
-// An entry and its board.
+/// An entry and its board.
 #[derive(Clone, Copy)]
 pub struct Step {
     pub side: Side,
@@ -38,7 +38,8 @@ pub struct Step {
 
 // The word that a list begins with, the high byte first, and the rest of the list.
 fn word(list: &[u8]) -> Result<(u16, &[u8]), Fault>
-    ensures { MatchResult result (λ p. list.now ≡ two_bytes p.0 ++ p.1.now) (λ f. (f ≡ CutShort) × (length list.now < 2)) }
+    ensures { MatchResult result
+        (λ p. list.now ≡ two_bytes p.0 ++ p.1.now) (λ f. (f ≡ CutShort) × (length list.now < 2)) }
 {
     match list {
         [high, low, rest @ ..] => Ok((u16::from_be_bytes([*high, *low]), rest)),
@@ -48,7 +49,9 @@ fn word(list: &[u8]) -> Result<(u16, &[u8]), Fault>
 
 // What a cycle brings to one gate; none if a switch bit from 3 on is set.
 fn inputs(count: u16, switches: u8) -> Result<Inputs, Fault>
-    ensures { MatchResult result (λ i. input_bytes i ≡ two_bytes count ++ (switches ∷ [])) (λ f. (f ≡ Operand) × (nat_lt switches 8 ≡ false)) }
+    ensures { MatchResult result
+        (λ i. input_bytes i ≡ two_bytes count ++ (switches ∷ []))
+        (λ f. (f ≡ Operand) × (nat_lt switches 8 ≡ false)) }
 {
     if switches >= 8 {
         return Err(Fault::Operand);
@@ -64,21 +67,12 @@ fn inputs(count: u16, switches: u8) -> Result<Inputs, Fault>
 fn cycle(list: &[u8]) -> Result<(Entry, &[u8]), Fault>
     ensures { MatchResult result (λ p. Carries 3 list.now p.0 p.1.now) (FailsAt 3 list.now) }
 {
-    let [
-        left_high,
-        left_low,
-        left,
-        right_high,
-        right_low,
-        right,
-        rest @ ..,
-    ] = list
-    else {
+    let [one_high, one_low, one, two_high, two_low, two, rest @ ..] = list else {
         return Err(Fault::CutShort);
     };
-    let left = inputs(u16::from_be_bytes([*left_high, *left_low]), *left)?;
-    let right = inputs(u16::from_be_bytes([*right_high, *right_low]), *right)?;
-    Ok((Entry::Cycle(left, right), rest))
+    let one = inputs(u16::from_be_bytes([*one_high, *one_low]), *one)?;
+    let two = inputs(u16::from_be_bytes([*two_high, *two_low]), *two)?;
+    Ok((Entry::Cycle(one, two), rest))
 }
 
 fn slip_to_close(list: &[u8]) -> Result<(Closing, &[u8]), Fault>
@@ -97,7 +91,8 @@ fn slip_to_close(list: &[u8]) -> Result<(Closing, &[u8]), Fault>
 impl Entry {
     // The entry of a code, whose operands the list begins with, and the rest of the list.
     fn read(code: u8, list: &[u8]) -> Result<(Entry, &[u8]), Fault>
-        ensures { MatchResult result (λ p. Carries code list.now p.0 p.1.now) (FailsAt code list.now) }
+        ensures { MatchResult result
+            (λ p. Carries code list.now p.0 p.1.now) (FailsAt code list.now) }
     {
         match code {
             0 => match list {
@@ -131,10 +126,10 @@ impl Entry {
 }
 
 impl Step {
-    // The step that a byte and the list behind it begin with, and the rest of the list. Its operands are looked at only if all of them are
-    // there.
+    /// The step that a byte and the list behind it begin with, and the rest of the list. Its operands are looked at only if all of them are
+    /// there.
     pub fn read(first: u8, list: &[u8]) -> Result<(Step, &[u8]), Fault>
-        ensures { Reads (first ∷ list.now) result }
+        ensures { ReadsStep (first ∷ list.now) result }
     {
         let (side, code) = if first < 128 {
             (Side::A, first)

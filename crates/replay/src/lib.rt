@@ -2,7 +2,7 @@
 #![tactic(auto)]
 
 ghost use Rattle.std.specs.Prelude.{◌≡◌, true, false};
-ghost use Rattle.replay.specs.Replays.{Filled};
+ghost use Rattle.replay.specs.Replays.{FillsRoom};
 ghost use Rattle.replay.specs.Returns.{Returns};
 
 use crate::boards::Boards;
@@ -44,7 +44,7 @@ fn replay<S: Stage + Drop, R: Stage + Drop>(
     list: &[u8],
     room: &mut [u8],
 ) -> (usize, Result<(), Fault>)
-    ensures { Filled S.Stage R.Stage list.now room.old room.new result.0 result.1 }
+    ensures { FillsRoom S.Stage R.Stage list.now room.old room.new result.0 result.1 }
 {
     let mut boards = Boards::new(one, two);
     let mut out = Out {

@@ -1,6 +1,6 @@
 ghost use Rattle.std.specs.Prelude.{◌≡◌};
 ghost use Rattle.replay.specs.Looks.{mode_byte, break_byte, motor_byte, pair_bytes, profile_bytes, motion_bytes, breakpoint_bytes, flags_bytes, record_bytes, look_bytes};
-ghost use Rattle.replay.specs.Written.{Room, Wrote, Written};
+ghost use Rattle.replay.specs.Written.{HasRoom, Appends, AppendsOrNone};
 
 use crate::fault::Fault;
 use crate::out::Out;
@@ -51,16 +51,16 @@ fn motor_byte(kind: MotorKind) -> u8
 }
 
 fn put_pair(out: &mut Out<'_>, pair: (i32, i32))
-    requires { Room out.old 8 }
-    ensures { Wrote out.old out.new (pair_bytes pair) }
+    requires { HasRoom out.old 8 }
+    ensures { Appends out.old out.new (pair_bytes pair) }
 {
     out.put(&pair.0.to_be_bytes());
     out.put(&pair.1.to_be_bytes());
 }
 
 fn put_profile(out: &mut Out<'_>, profile: Profile)
-    requires { Room out.old 13 }
-    ensures { Wrote out.old out.new (profile_bytes profile) }
+    requires { HasRoom out.old 13 }
+    ensures { Appends out.old out.new (profile_bytes profile) }
 {
     out.put(&profile.destination.to_be_bytes());
     out.put(&profile.velocity.to_be_bytes());
@@ -69,8 +69,8 @@ fn put_profile(out: &mut Out<'_>, profile: Profile)
 }
 
 fn put_motion(out: &mut Out<'_>, motion: Motion)
-    requires { Room out.old 14 }
-    ensures { Wrote out.old out.new (motion_bytes motion) }
+    requires { HasRoom out.old 14 }
+    ensures { Appends out.old out.new (motion_bytes motion) }
 {
     out.put(&motion.target.to_be_bytes());
     out.put(&motion.velocity.to_be_bytes());
@@ -78,8 +78,8 @@ fn put_motion(out: &mut Out<'_>, motion: Motion)
 }
 
 fn put_breakpoint(out: &mut Out<'_>, breakpoint: Breakpoint)
-    requires { Room out.old 6 }
-    ensures { Wrote out.old out.new (breakpoint_bytes breakpoint) }
+    requires { HasRoom out.old 6 }
+    ensures { Appends out.old out.new (breakpoint_bytes breakpoint) }
 {
     out.put(&[break_byte(breakpoint.mode)]);
     out.put(&breakpoint.point.to_be_bytes());
@@ -88,8 +88,8 @@ fn put_breakpoint(out: &mut Out<'_>, breakpoint: Breakpoint)
 
 // What follows the breakpoint in a record: event bits, mask, detectors, kind of motor, slip mark, clock.
 fn put_flags(out: &mut Out<'_>, gate: &Gate)
-    requires { Room out.old 11 }
-    ensures { Wrote out.old out.new (flags_bytes gate.now) }
+    requires { HasRoom out.old 11 }
+    ensures { Appends out.old out.new (flags_bytes gate.now) }
 {
     out.put(&[gate.events.word() as u8]);
     out.put(&gate.mask.to_be_bytes());
@@ -102,8 +102,8 @@ fn put_flags(out: &mut Out<'_>, gate: &Gate)
 }
 
 fn put_record(out: &mut Out<'_>, gate: &Gate)
-    requires { Room out.old 65 }
-    ensures { Wrote out.old out.new (record_bytes gate.now) }
+    requires { HasRoom out.old 65 }
+    ensures { Appends out.old out.new (record_bytes gate.now) }
 {
     put_profile(out, gate.buffered);
     put_profile(out, gate.active);
@@ -115,9 +115,9 @@ fn put_record(out: &mut Out<'_>, gate: &Gate)
     put_flags(out, gate);
 }
 
-// Writes the pairs and the records of a board.
+/// Writes the pairs and the records of a board.
 pub fn put_look<S: Stage + Drop>(out: &mut Out<'_>, board: &Board<S>) -> Result<(), Fault>
-    ensures { Written out.old out.new (look_bytes S.Stage board.now) result }
+    ensures { AppendsOrNone out.old out.new (look_bytes S.Stage board.now) result }
 {
     out.room(LOOK)?;
     out.put(&[0x13]);

@@ -2,8 +2,8 @@ ghost use Rattle.std.specs.Prelude.{◌≡◌, ◌+◌, ◌<◌, ◌≤◌, leng
 
 use crate::fault::Fault;
 
-// Writes answers into `bytes`, one behind the other; `len` is the place behind the last one. It stands beside the slice since std's
-// writer, which shrinks its slice instead, promises nothing of what the whole slice ends as.
+/// Writes answers into `bytes`, one behind the other; `len` is the place behind the last one. It stands beside the slice since std's
+/// writer, which shrinks its slice instead, promises nothing of what the whole slice ends as.
 #[derive(Drop)]
 pub struct Out<'a> {
     pub(crate) bytes: &'a mut [u8],
@@ -13,12 +13,12 @@ pub struct Out<'a> {
 
 impl Out<'_> {
     ghost use Rattle.replay.specs.declared.fault.Fault.TheVariants.{NoRoom};
-    ghost use Rattle.replay.specs.Written.{Room, Wrote, Written};
+    ghost use Rattle.replay.specs.Written.{HasRoom, Appends, AppendsOrNone};
 
     // Writes bytes that there is room for.
     pub(crate) fn put(&mut self, more: &[u8])
-        requires { Room self.old (length more.now) }
-        ensures { Wrote self.old self.new more.now }
+        requires { HasRoom self.old (length more.now) }
+        ensures { Appends self.old self.new more.now }
     {
         let start = self.len;
         let end = start + more.len();
@@ -28,7 +28,9 @@ impl Out<'_> {
 
     // Whether there is room for so many bytes.
     pub(crate) fn room(&self, count: usize) -> Result<(), Fault>
-        ensures { MatchResult result (λ _. Room self.now count) (λ f. (f ≡ NoRoom) × (length self.now.bytes.now < self.now.len + count)) }
+        ensures { MatchResult result
+            (λ _. HasRoom self.now count)
+            (λ f. (f ≡ NoRoom) × (length self.now.bytes.now < self.now.len + count)) }
     {
         if self.bytes.len() - self.len < count {
             return Err(Fault::NoRoom);
@@ -36,9 +38,9 @@ impl Out<'_> {
         Ok(())
     }
 
-    // Writes a whole answer, or nothing.
+    /// Writes a whole answer, or nothing.
     pub fn write(&mut self, answer: &[u8]) -> Result<(), Fault>
-        ensures { Written self.old self.new answer.now result }
+        ensures { AppendsOrNone self.old self.new answer.now result }
     {
         self.room(answer.len())?;
         self.put(answer);

@@ -1,4 +1,4 @@
-ghost use Rattle.replay.specs.Plays.{Plays};
+ghost use Rattle.replay.specs.Plays.{PlaysEntry};
 
 use crate::answer::Answer;
 use crate::entry::Entry;
@@ -7,19 +7,20 @@ use desk::desk::Desk;
 use desk::desk::elsewhere::close_elsewhere;
 use stage::Stage;
 
-// Plays an entry at its own board; the other one is there for a close elsewhere.
+/// Plays an entry at its own board; the other one is there for a close elsewhere.
 pub fn play<S: Stage + Drop, R: Stage + Drop>(
     own: &mut Desk<S>,
     other: &mut Desk<R>,
     entry: Entry,
 ) -> Result<Answer, Refusal>
-    ensures { Plays S.Stage R.Stage entry result own.old.board own.new.board other.old.board other.new.board }
+    ensures { PlaysEntry S.Stage R.Stage entry result
+        own.old.board own.new.board other.old.board other.new.board }
 {
     match entry {
         Entry::Command(code) => own.command(code)?,
         Entry::Write(word) => own.write(word)?,
         Entry::Read => return Ok(Answer::Word(own.read()?)),
-        Entry::Cycle(left, right) => own.cycle(left, right),
+        Entry::Cycle(one, two) => own.cycle(one, two),
         Entry::Reset => own.reset(),
         Entry::Take => return Ok(Answer::Slip(own.take()?)),
         Entry::Close(closing) => {

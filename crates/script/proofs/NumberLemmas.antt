@@ -2,18 +2,19 @@
 use Rattle.std.proofs.Common.{rules, ◌≡◌, ℕ, ◌^◌, ◌<◌, List, ℤ, pos, negsuc, Ok, Err, Result, Some, None, Option, refl, subst, sym, unsigned_abs, FitsSigned}
 use Rattle.std.specs.Int.{FitsUnsignedBits, w16}
 use Rattle.std.specs.Result.{OkIff, result_ok}
-use Rattle.script.specs.Numbers.{Number}
-use Rattle.script.specs.Lines.{Fitted, Finds}
+use Rattle.script.specs.Numbers.{WritesNumber}
+use Rattle.script.specs.Lines.{WritesFitting, Finds}
 
 -- a text writes one number, or none
-pub number_is_one : (text : List ℕ) (r s : Option ℤ) → Number text r → Number text s → r ≡ s
+pub number_is_one : (text : List ℕ) (r s : Option ℤ) → WritesNumber text r → WritesNumber text s → r ≡ s
 number_is_one text (Some x) (Some y) p q = search rules
 number_is_one text (Some x) None p q = search rules
 number_is_one text None (Some y) p q = search rules
 number_is_one text None None p q = refl
 
 -- a text that writes a number, and what a type gives for it
-pub fitted : {N E : Type 0} (gives : ℤ → Result N E → Type 0) (text : List ℕ) (z : ℤ) (r : Result N E) → Number text (Some z) → gives z r → Fitted gives text (result_ok r)
+pub fitted : {N E : Type 0} (gives : ℤ → Result N E → Type 0) (text : List ℕ) (z : ℤ) (r : Result N E) → WritesNumber text (Some z)
+    → gives z r → WritesFitting gives text (result_ok r)
 fitted gives text z (Ok n) p q = (z, p, q)
 fitted gives text z (Err e) p q = λ y w. (e, subst (λ (v : ℤ). gives v (Err e)) (some_is_one z y (number_is_one text (Some z) (Some y) p w)) q)
   where
@@ -21,11 +22,15 @@ fitted gives text z (Err e) p q = λ y w. (e, subst (λ (v : ℤ). gives v (Err 
     some_is_one x y e = cc
 
 -- what an unsigned type takes
-pub unsigned_fitted : (E : Type 0) (k : ℕ) (text : List ℕ) (r : Option ℕ) → Fitted {E = E} (λ z g. OkIff g (FitsUnsignedBits k z) (unsigned_abs z)) text r → Finds (λ n. (n < 2 ^ k) × Number text (Some (pos n))) r
-unsigned_fitted E k text (Some n) (pos m, p, q) = (subst (λ (v : ℕ). v < 2 ^ k) (sym q.1) q.0, subst (λ (v : ℕ). Number text (Some (pos v))) (sym q.1) p)
+pub unsigned_fitted : (E : Type 0) (k : ℕ) (text : List ℕ) (r : Option ℕ)
+    → WritesFitting {E = E} (λ z g. OkIff g (FitsUnsignedBits k z) (unsigned_abs z)) text r
+    → Finds (λ n. (n < 2 ^ k) × WritesNumber text (Some (pos n))) r
+unsigned_fitted E k text (Some n) (pos m, p, q) =
+    (subst (λ (v : ℕ). v < 2 ^ k) (sym q.1) q.0, subst (λ (v : ℕ). WritesNumber text (Some (pos v))) (sym q.1) p)
 unsigned_fitted E k text (Some n) (negsuc m, p, q) = elim q.0 [ ]
 unsigned_fitted E k text None none = λ n w. (none (pos n) w.1).1 w.0
 
 -- a signed type of 16 bits
-pub signed_fitted : (E : Type 0) (text : List ℕ) (z : ℤ) → Fitted {E = E} (λ z g. OkIff g (FitsSigned w16 z) z) text None → FitsSigned w16 z → Number text (Some z) → ⊥
+pub signed_fitted : (E : Type 0) (text : List ℕ) (z : ℤ) → WritesFitting {E = E} (λ z g. OkIff g (FitsSigned w16 z) z) text None
+    → FitsSigned w16 z → WritesNumber text (Some z) → ⊥
 signed_fitted E text z none l p = (none z p).1 l

@@ -6,10 +6,10 @@ use Rattle.board.specs.declared.command.Command.{Command}
 use Rattle.board.specs.Commands.{code_table}
 use Rattle.desk.specs.declared.side.Side.{Side}
 use Rattle.desk.specs.declared.side.Side.TheVariants.{A, B}
-use Rattle.script.specs.Mnemonics.{mnemonic, Names}
-use Rattle.script.specs.Numbers.{Number, Bits}
+use Rattle.script.specs.Mnemonics.{mnemonic, NamesCommand}
+use Rattle.script.specs.Numbers.{WritesNumber, HasBits}
 use Rattle.std.specs.Borrow.{Bor}
-use Rattle.gate.specs.Inputs.{still}
+use Rattle.gate.specs.Inputs.{still_inputs}
 use Rattle.board.specs.Commands.{takes}
 use Rattle.script.specs.declared.fault.Expected.{Expected}
 use Rattle.script.specs.declared.fault.Expected.TheVariants as expected
@@ -25,81 +25,84 @@ Finds {T = T} P None = (x : T) → P x → ⊥
 
 -- a text is a number of 16 bits, or of 32, signed or not
 abbrev pub IsWord : List ℕ → ℕ → Type 0
-IsWord text w = (z : ℤ) × Number text (Some z) × Bits 32768 z (Some w)
+IsWord text w = (z : ℤ) × WritesNumber text (Some z) × HasBits 32768 z (Some w)
 
 abbrev pub IsLong : List ℕ → ℕ → Type 0
-IsLong text n = (z : ℤ) × Number text (Some z) × Bits 2147483648 z (Some n)
+IsLong text n = (z : ℤ) × WritesNumber text (Some z) × HasBits 2147483648 z (Some n)
 
 -- a command's name, or its code
 abbrev pub IsCode : List ℕ → ℕ → Type 0
-IsCode text n = ((c : Command) × (text ≡ mnemonic c) × (code_table n ≡ Some c)) ⊎ ((n < 2 ^ 8) × Number text (Some (pos n)))
+IsCode text n = ((c : Command) × (text ≡ mnemonic c) × (code_table n ≡ Some c)) ⊎ ((n < 2 ^ 8) × WritesNumber text (Some (pos n)))
 
 abbrev pub side_name : Side → List ℕ
 side_name A = codes "a"
 side_name B = codes "b"
 
 -- a letter stands in a text
-abbrev pub Holds : List ℕ → ℕ → Bool → Type 0
-Holds text letter true = (i : ℕ) × (i < length text) × (slice_index text i ≡ letter)
-Holds text letter false = (i : ℕ) → i < length text → slice_index text i ≢ letter
+abbrev pub HoldsLetter : List ℕ → ℕ → Bool → Type 0
+HoldsLetter text letter true = (i : ℕ) × (i < length text) × (slice_index text i ≡ letter)
+HoldsLetter text letter false = (i : ℕ) → i < length text → slice_index text i ≢ letter
 
 -- the letters of the active switches, among p, n and h; or a dash
-abbrev pub Letters : List ℕ → Type 0
-Letters text = (text ≡ codes "-") ⊎ ((i : ℕ) → i < length text → (slice_index text i ≡ 112) ⊎ ((slice_index text i ≡ 110) ⊎ (slice_index text i ≡ 104)))
+abbrev pub IsSwitchLetters : List ℕ → Type 0
+IsSwitchLetters text =
+    (text ≡ codes "-")
+    ⊎ ((i : ℕ) → i < length text → (slice_index text i ≡ 112) ⊎ ((slice_index text i ≡ 110) ⊎ (slice_index text i ≡ 104)))
 
 -- a count and such letters
 pub record IsInputs (count letters : List ℕ) (i : Inputs) : Type 0 where
-  pub letters_are : Letters letters
+  pub letters_are : IsSwitchLetters letters
   pub count_fits : FitsSigned w16 i.count
-  pub count_is : Number count (Some i.count)
-  pub positive_is : Holds letters 112 i.positive
-  pub negative_is : Holds letters 110 i.negative
-  pub home_is : Holds letters 104 i.home
+  pub count_is : WritesNumber count (Some i.count)
+  pub positive_is : HoldsLetter letters 112 i.positive
+  pub negative_is : HoldsLetter letters 110 i.negative
+  pub home_is : HoldsLetter letters 104 i.home
 
 -- a gate, written as its number and in no other way
 abbrev pub IsGate : List ℕ → ℕ → Type 0
 IsGate text g = ((g ≡ 1) × (text ≡ codes "1")) ⊎ ((g ≡ 2) × (text ≡ codes "2"))
 
 -- the number that a text writes, where a type takes it: `gives` tells what the type gives for a number
-abbrev pub Fitted : {N E : Type 0} → (ℤ → Result N E → Type 0) → List ℕ → Option N → Type 0
-Fitted gives text (Some n) = (z : ℤ) × Number text (Some z) × gives z (Ok n)
-Fitted {E = E} gives text None = (z : ℤ) → Number text (Some z) → (e : E) × gives z (Err e)
+abbrev pub WritesFitting : {N E : Type 0} → (ℤ → Result N E → Type 0) → List ℕ → Option N → Type 0
+WritesFitting gives text (Some n) = (z : ℤ) × WritesNumber text (Some z) × gives z (Ok n)
+WritesFitting {E = E} gives text None = (z : ℤ) → WritesNumber text (Some z) → (e : E) × gives z (Err e)
 
 -- there is one word, of which this holds
-abbrev pub One : (List ℕ → Type 0) → List (Bor (List ℕ)) → Type 0
-One P words = (t : Bor (List ℕ)) × (words ≡ t ∷ []) × P t.now
+abbrev pub HasOneWord : (List ℕ → Type 0) → List (Bor (List ℕ)) → Type 0
+HasOneWord P words = (t : Bor (List ℕ)) × (words ≡ t ∷ []) × P t.now
 
 -- what the words behind `cycle` bring to the gates
-abbrev pub CycleWords : List (Bor (List ℕ)) → Inputs → Inputs → Type 0
-CycleWords words i j =
-    ((words ≡ []) × (i ≡ still) × (j ≡ still))
-    ⊎ ((c : Bor (List ℕ)) × (s : Bor (List ℕ)) × (d : Bor (List ℕ)) × (t : Bor (List ℕ)) × (words ≡ c ∷ (s ∷ (d ∷ (t ∷ [])))) × IsInputs c.now s.now i × IsInputs d.now t.now j)
+abbrev pub IsCycleWords : List (Bor (List ℕ)) → Inputs → Inputs → Type 0
+IsCycleWords words i j =
+    ((words ≡ []) × (i ≡ still_inputs) × (j ≡ still_inputs))
+    ⊎ ((c : Bor (List ℕ)) × (s : Bor (List ℕ)) × (d : Bor (List ℕ)) × (t : Bor (List ℕ)) × (words ≡ c ∷ (s ∷ (d ∷ (t ∷ [])))) ×
+    IsInputs c.now s.now i × IsInputs d.now t.now j)
 
 -- the gate and the word behind `close`
-abbrev pub CloseWords : List (Bor (List ℕ)) → ℕ → ℕ → Type 0
-CloseWords words n x = (g : Bor (List ℕ)) × (w : Bor (List ℕ)) × (words ≡ g ∷ (w ∷ [])) × IsGate g.now n × IsWord w.now x
+abbrev pub IsCloseWords : List (Bor (List ℕ)) → ℕ → ℕ → Type 0
+IsCloseWords words n x = (g : Bor (List ℕ)) × (w : Bor (List ℕ)) × (words ≡ g ∷ (w ∷ [])) × IsGate g.now n × IsWord w.now x
 
 -- a command's packet, with the value that the words write
 abbrev pub IsPacket : Command → List (Bor (List ℕ)) → Packet → Type 0
 IsPacket c words (packet.Plain d) = (d ≡ c) × (takes c ≡ 0) × (words ≡ [])
-IsPacket c words (packet.Word d w) = (d ≡ c) × (takes c ≡ 1) × One (λ t. IsWord t w) words
-IsPacket c words (packet.Long d n) = (d ≡ c) × (takes c ≡ 2) × One (λ t. IsLong t n) words
+IsPacket c words (packet.Word d w) = (d ≡ c) × (takes c ≡ 1) × HasOneWord (λ t. IsWord t w) words
+IsPacket c words (packet.Long d n) = (d ≡ c) × (takes c ≡ 2) × HasOneWord (λ t. IsLong t n) words
 
 -- a line that words write, the first of them and those behind it
-abbrev pub Writes : List ℕ → List (Bor (List ℕ)) → Line → Type 0
-Writes verb words line.Nothing = ⊥
-Writes verb words (line.Board side) = (verb ≡ codes "board") × One (λ t. t ≡ side_name side) words
-Writes verb words (line.Command n) = (verb ≡ codes "command") × One (λ t. IsCode t n) words
-Writes verb words (line.Write w) = (verb ≡ codes "write") × One (λ t. IsWord t w) words
-Writes verb words line.Read = (verb ≡ codes "read") × (words ≡ [])
-Writes verb words (line.Cycle i j) = (verb ≡ codes "cycle") × CycleWords words i j
-Writes verb words (line.Run n) = (verb ≡ codes "run") × One (λ t. (n < 2 ^ 32) × Number t (Some (pos n))) words
-Writes verb words line.Reset = (verb ≡ codes "reset") × (words ≡ [])
-Writes verb words line.Take = (verb ≡ codes "take") × (words ≡ [])
-Writes verb words (line.Close g w) = (verb ≡ codes "close") × CloseWords words g w
-Writes verb words line.Pairs = (verb ≡ codes "pairs") × (words ≡ [])
-Writes verb words line.Wires = (verb ≡ codes "wires") × (words ≡ [])
-Writes verb words (line.Packet p) = (c : Command) × (verb ≡ mnemonic c) × IsPacket c words p
+abbrev pub WritesLine : List ℕ → List (Bor (List ℕ)) → Line → Type 0
+WritesLine verb words line.Nothing = ⊥
+WritesLine verb words (line.Board side) = (verb ≡ codes "board") × HasOneWord (λ t. t ≡ side_name side) words
+WritesLine verb words (line.Command n) = (verb ≡ codes "command") × HasOneWord (λ t. IsCode t n) words
+WritesLine verb words (line.Write w) = (verb ≡ codes "write") × HasOneWord (λ t. IsWord t w) words
+WritesLine verb words line.Read = (verb ≡ codes "read") × (words ≡ [])
+WritesLine verb words (line.Cycle i j) = (verb ≡ codes "cycle") × IsCycleWords words i j
+WritesLine verb words (line.Run n) = (verb ≡ codes "run") × HasOneWord (λ t. (n < 2 ^ 32) × WritesNumber t (Some (pos n))) words
+WritesLine verb words line.Reset = (verb ≡ codes "reset") × (words ≡ [])
+WritesLine verb words line.Take = (verb ≡ codes "take") × (words ≡ [])
+WritesLine verb words (line.Close g w) = (verb ≡ codes "close") × IsCloseWords words g w
+WritesLine verb words line.Pairs = (verb ≡ codes "pairs") × (words ≡ [])
+WritesLine verb words line.Wires = (verb ≡ codes "wires") × (words ≡ [])
+WritesLine verb words (line.Packet p) = (c : Command) × (verb ≡ mnemonic c) × IsPacket c words p
 
 -- what is expected behind a mnemonic, by how many words its packet takes
 abbrev pub value_expected : ℕ → Expected
@@ -120,7 +123,7 @@ verbs =
 
 -- what is expected of a line, by its verb
 abbrev pub Expects : List ℕ → Expected → Type 0
-Expects verb expected.Line = Names verb None × All (λ v. verb ≢ v) verbs
+Expects verb expected.Line = NamesCommand verb None × All (λ v. verb ≢ v) verbs
 Expects verb expected.Board = verb ≡ codes "board"
 Expects verb expected.Command = verb ≡ codes "command"
 Expects verb expected.Word = verb ≡ codes "write"
@@ -134,7 +137,7 @@ Expects verb expected.WordValue = (c : Command) × (verb ≡ mnemonic c) × (tak
 Expects verb expected.LongValue = (c : Command) × (verb ≡ mnemonic c) × (takes c ≡ 2)
 
 -- what the words of a line are read as: the line that they write, or what was expected, where they write none
-abbrev pub Says : List (Bor (List ℕ)) → Result Line Expected → Type 0
-Says [] r = r ≡ Ok line.Nothing
-Says (verb ∷ words) (Ok l) = Writes verb.now words l
-Says (verb ∷ words) (Err e) = Finds (Writes verb.now words) None × Expects verb.now e
+abbrev pub ReadsLine : List (Bor (List ℕ)) → Result Line Expected → Type 0
+ReadsLine [] r = r ≡ Ok line.Nothing
+ReadsLine (verb ∷ words) (Ok l) = WritesLine verb.now words l
+ReadsLine (verb ∷ words) (Err e) = Finds (WritesLine verb.now words) None × Expects verb.now e

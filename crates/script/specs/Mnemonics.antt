@@ -51,6 +51,6 @@ mnemonic (Ask query.ActualPosition) = codes "GET_ACTL_POS"
 mnemonic (Ask query.CycleTime) = codes "GET_TIME"
 
 -- the command that a word names, or none, where it names none
-abbrev pub Names : List ℕ → Option Command → Type 0
-Names text (Some c) = text ≡ mnemonic c
-Names text None = (c : Command) → text ≢ mnemonic c
+abbrev pub NamesCommand : List ℕ → Option Command → Type 0
+NamesCommand text (Some c) = text ≡ mnemonic c
+NamesCommand text None = (c : Command) → text ≢ mnemonic c

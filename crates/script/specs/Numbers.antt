@@ -10,21 +10,22 @@ abbrev pub IsDecimal : List ℕ → Type 0
 IsDecimal word = IsNumeral 10 (without_leading_sign word) × FitsSigned w64 (signed_digits_value 10 word)
 
 -- the number that hexadecimal digits write, or none, where they are none
-abbrev pub Hex : List ℕ → Option ℤ → Type 0
-Hex ds (Some z) = IsHex ds × (z ≡ pos (digits_value 16 ds))
-Hex ds None = IsHex ds → ⊥
+abbrev pub WritesHex : List ℕ → Option ℤ → Type 0
+WritesHex ds (Some z) = IsHex ds × (z ≡ pos (digits_value 16 ds))
+WritesHex ds None = IsHex ds → ⊥
 
 -- the number that a decimal word writes, after a sign or not
-abbrev pub Decimal : List ℕ → Option ℤ → Type 0
-Decimal word (Some z) = IsDecimal word × (z ≡ signed_digits_value 10 word)
-Decimal word None = IsDecimal word → ⊥
+abbrev pub WritesDecimal : List ℕ → Option ℤ → Type 0
+WritesDecimal word (Some z) = IsDecimal word × (z ≡ signed_digits_value 10 word)
+WritesDecimal word None = IsDecimal word → ⊥
 
 -- a word that begins with 0x is hexadecimal, any other decimal
-abbrev pub Number : List ℕ → Option ℤ → Type 0
-Number word r = ((ds : List ℕ) × (word ≡ codes "0x" ++ ds) × Hex ds r) ⊎ (((ds : List ℕ) → word ≢ codes "0x" ++ ds) × Decimal word r)
+abbrev pub WritesNumber : List ℕ → Option ℤ → Type 0
+WritesNumber word r =
+    ((ds : List ℕ) × (word ≡ codes "0x" ++ ds) × WritesHex ds r) ⊎ (((ds : List ℕ) → word ≢ codes "0x" ++ ds) × WritesDecimal word r)
 
 -- a signed or an unsigned number of a width with 2 × half values
-pub record InWidth (half : ℕ) (z : ℤ) : Type 0 where
+pub record IsInWidth (half : ℕ) (z : ℤ) : Type 0 where
   pub low : neg_ℤ (pos half) ≤ℤ z
   pub high : z <ℤ pos (2 * half)
 
@@ -32,6 +33,6 @@ pub record InWidth (half : ℕ) (z : ℤ) : Type 0 where
 abbrev pub bits : ℕ → ℤ → ℤ
 bits half z = cond (int_lt z (pos 0)) (z +ℤ pos (2 * half)) z
 
-abbrev pub Bits : ℕ → ℤ → Option ℕ → Type 0
-Bits half z (Some n) = InWidth half z × (pos n ≡ bits half z)
-Bits half z None = InWidth half z → ⊥
+abbrev pub HasBits : ℕ → ℤ → Option ℕ → Type 0
+HasBits half z (Some n) = IsInWidth half z × (pos n ≡ bits half z)
+HasBits half z None = IsInWidth half z → ⊥

@@ -3,7 +3,7 @@ use Rattle.std.specs.Prelude.{ℕ, List, ◌++◌, Ok, Err, Result, codes, decim
 use Rattle.std.specs.Fmt.{signed_decimal}
 use Rattle.stage.specs.Codes.{codes_text}
 use Rattle.board.specs.declared.refusal.Refusal.{Refusal}
-use Rattle.board.specs.Refusals.{number}
+use Rattle.board.specs.Refusals.{refusal_number}
 use Rattle.script.specs.declared.reply.Reply.{Reply}
 use Rattle.script.specs.declared.reply.Reply.TheVariants.{Done, Word, Slip, NoSlip, Pairs, Wires, Value}
 
@@ -14,11 +14,12 @@ reply_text (Word w) = codes "word " ++ decimal w
 reply_text (Slip gate) = codes "slip " ++ decimal gate
 reply_text NoSlip = codes "no slip"
 reply_text (Pairs p q) =
-    codes "pairs " ++ (signed_decimal p.0 ++ (codes " " ++ (signed_decimal p.1 ++ (codes " " ++ (signed_decimal q.0 ++ (codes " " ++ signed_decimal q.1))))))
+    codes "pairs " ++ (signed_decimal p.0 ++
+    (codes " " ++ (signed_decimal p.1 ++ (codes " " ++ (signed_decimal q.0 ++ (codes " " ++ signed_decimal q.1))))))
 reply_text (Wires c) = codes "wires " ++ codes_text c
 reply_text (Value z) = codes "value " ++ signed_decimal z
 
 -- and of a reply or a refusal
 abbrev pub answer_text : Result Reply Refusal → List ℕ
 answer_text (Ok r) = reply_text r
-answer_text (Err e) = codes "refused " ++ decimal (number e)
+answer_text (Err e) = codes "refused " ++ decimal (refusal_number e)

@@ -9,19 +9,19 @@ use Rattle.script.specs.declared.boards.Boards.{Boards}
 use Rattle.script.specs.declared.line.Line.{Line}
 use Rattle.script.specs.declared.line.Line.TheVariants as line
 use Rattle.script.specs.declared.reply.Reply.{Reply}
-use Rattle.script.specs.Plays.{Played}
+use Rattle.script.specs.Plays.{PlaysLine}
 
 -- two makes of stage, and what a stage of each has on its wires
 module _ {S R : Type 0} (m : Ghosts S) (n : Ghosts R) (look : S → Codes) (see : R → Codes) where
   -- the line is played on one board, and the other stays
-  abbrev pub PlayedAt : Side → Line → Result (Option Reply) Refusal → Boards S R m n → Boards S R m n → Type 0
-  PlayedAt A l r x y = Played m look l r x.a.board y.a.board × (y.b ≡ x.b) × (y.current ≡ x.current)
-  PlayedAt B l r x y = Played n see l r x.b.board y.b.board × (y.a ≡ x.a) × (y.current ≡ x.current)
+  abbrev pub PlaysAt : Side → Line → Result (Option Reply) Refusal → Boards S R m n → Boards S R m n → Type 0
+  PlaysAt A l r x y = PlaysLine m look l r x.a.board y.a.board × (y.b ≡ x.b) × (y.current ≡ x.current)
+  PlaysAt B l r x y = PlaysLine n see l r x.b.board y.b.board × (y.a ≡ x.a) × (y.current ≡ x.current)
 
   -- a line that names a board only turns to it
-  abbrev pub Turned : Side → Result (Option Reply) Refusal → Boards S R m n → Boards S R m n → Type 0
-  Turned side r x y = (r ≡ Ok None) × (y.current ≡ side) × (y.a ≡ x.a) × (y.b ≡ x.b)
+  abbrev pub TurnsTo : Side → Result (Option Reply) Refusal → Boards S R m n → Boards S R m n → Type 0
+  TurnsTo side r x y = (r ≡ Ok None) × (y.current ≡ side) × (y.a ≡ x.a) × (y.b ≡ x.b)
 
-  abbrev pub Went : Line → Result (Option Reply) Refusal → Boards S R m n → Boards S R m n → Type 0
-  Went (line.Board side) r x y = Turned side r x y
-  Went l r x y = PlayedAt x.current l r x y
+  abbrev pub PlaysOnBoards : Line → Result (Option Reply) Refusal → Boards S R m n → Boards S R m n → Type 0
+  PlaysOnBoards (line.Board side) r x y = TurnsTo side r x y
+  PlaysOnBoards l r x y = PlaysAt x.current l r x y

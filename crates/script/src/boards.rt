@@ -1,8 +1,8 @@
 ghost use Rattle.std.specs.Prelude.{◌≡◌, []};
-ghost use Rattle.board.specs.Runs.{Came};
-ghost use Rattle.desk.specs.Closes.{Ended};
+ghost use Rattle.board.specs.Runs.{ReachedBy};
+ghost use Rattle.desk.specs.Closes.{ClosesAll};
 ghost use Rattle.desk.specs.declared.side.Side.TheVariants.{A as First};
-ghost use Rattle.script.specs.Sides.{PlayedAt, Went};
+ghost use Rattle.script.specs.Sides.{PlaysAt, PlaysOnBoards};
 
 use crate::line::Line;
 use crate::play::play;
@@ -14,7 +14,7 @@ use desk::side::Side;
 use stage::Stage;
 use stage::codes::Wires;
 
-// The two boards of the console, and the one that lines go to.
+/// The two boards of the console, and the one that lines go to.
 pub struct Boards<S: Stage + Drop, R: Stage + Drop> {
     a: Desk<S>,
     b: Desk<R>,
@@ -22,10 +22,10 @@ pub struct Boards<S: Stage + Drop, R: Stage + Drop> {
 }
 
 impl<S: Stage + Drop, R: Stage + Drop> Boards<S, R> {
-    // Two new boards; lines go to the first.
+    /// Two new boards; lines go to the first.
     pub fn new(a: S, b: R) -> Boards<S, R>
-        ensures a { Came S.Stage [] result.a.board }
-        ensures b { Came R.Stage [] result.b.board }
+        ensures a { ReachedBy S.Stage [] result.a.board }
+        ensures b { ReachedBy R.Stage [] result.b.board }
         ensures current { result.current ≡ First }
     {
         Boards {
@@ -35,10 +35,10 @@ impl<S: Stage + Drop, R: Stage + Drop> Boards<S, R> {
         }
     }
 
-    // Closes every slip that is still kept, at its board, with a word that clears nothing.
+    /// Closes every slip that is still kept, at its board, with a word that clears nothing.
     pub fn finish(self) -> (Board<S>, Board<R>)
-        ensures a { Ended S.Stage self.a.board result.0 }
-        ensures b { Ended R.Stage self.b.board result.1 }
+        ensures a { ClosesAll S.Stage self.a.board result.0 }
+        ensures b { ClosesAll R.Stage self.b.board result.1 }
     {
         let Boards { a, b, current: _ } = self;
         (a.finish(), b.finish())
@@ -48,7 +48,8 @@ impl<S: Stage + Drop, R: Stage + Drop> Boards<S, R> {
 impl<S: Wires + Drop, R: Wires + Drop> Boards<S, R> {
     // Plays a line on the current board.
     fn play_here(&mut self, line: Line) -> Result<Option<Reply>, Refusal>
-        ensures { PlayedAt S.Stage R.Stage S.codes R.codes self.old.current line result self.old self.new }
+        ensures { PlaysAt S.Stage R.Stage S.codes R.codes self.old.current line result
+            self.old self.new }
     {
         match self.current {
             Side::A => play(&mut self.a, line),
@@ -56,9 +57,9 @@ impl<S: Wires + Drop, R: Wires + Drop> Boards<S, R> {
         }
     }
 
-    // Plays a line on the board that it goes to.
+    /// Plays a line on the board that it goes to.
     pub fn play(&mut self, line: Line) -> Result<Option<Reply>, Refusal>
-        ensures { Went S.Stage R.Stage S.codes R.codes line result self.old self.new }
+        ensures { PlaysOnBoards S.Stage R.Stage S.codes R.codes line result self.old self.new }
     {
         match line {
             Line::Board(side) => {

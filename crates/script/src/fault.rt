@@ -1,6 +1,6 @@
 use thiserror::Error;
 
-// What a line of a script should have been.
+/// What a line of a script should have been.
 #[derive(Clone, Copy, Debug, PartialEq, Eq, Error)]
 pub enum Expected {
     #[error("board, command, write, read, cycle, run, reset, take, close, pairs, wires or a mnemonic")]

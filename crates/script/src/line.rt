@@ -1,6 +1,6 @@
 ghost use Rattle.std.specs.Prelude.{◌≡◌, ◌<◌, [], ◌∷◌, codes};
 ghost use Rattle.std.specs.Option.{SomeIff};
-ghost use Rattle.script.specs.Lines.{Finds, Fitted, Holds, IsCode, IsGate, IsInputs, IsLong, IsWord, One, ReadsPacket, Says, Writes, side_name};
+ghost use Rattle.script.specs.Lines.{Finds, WritesFitting, HoldsLetter, IsCode, IsGate, IsInputs, IsLong, IsWord, HasOneWord, ReadsPacket, ReadsLine, WritesLine, side_name};
 
 use crate::fault::Expected;
 use crate::mnemonic::named;
@@ -9,7 +9,7 @@ use board::command::Command;
 use desk::side::Side;
 use gate::inputs::Inputs;
 
-// What a line of a script asks for.
+/// What a line of a script asks for.
 #[derive(Clone, Copy, PartialEq, Eq, Debug)]
 pub enum Line {
     Nothing,
@@ -27,7 +27,7 @@ pub enum Line {
     Packet(Packet),
 }
 
-// The whole packet of a command, with the value that it takes.
+/// The whole packet of a command, with the value that it takes.
 #[derive(Clone, Copy, PartialEq, Eq, Debug)]
 pub enum Packet {
     Plain(Command),
@@ -71,7 +71,7 @@ fn long(text: &str) -> Option<u32>
 fn fitting<N: TryFrom<i64>>(text: &str) -> Option<N>
 where
     N::Error: Drop,
-    ensures { Fitted N.try_from_gives text.now result }
+    ensures { WritesFitting N.try_from_gives text.now result }
 {
     N::try_from(number(text)?).ok()
 }
@@ -90,7 +90,7 @@ fn gate(text: &str) -> Option<u8>
 #[tactic(auto, using(std::proofs::lemmas::Str::Pattern::contains_char))]
 fn holds(text: &str, letter: char) -> bool
     requires { letter < 128 }
-    ensures { Holds text.now letter result }
+    ensures { HoldsLetter text.now letter result }
 {
     text.contains(letter)
 }
@@ -126,13 +126,13 @@ fn only<'a>(words: &[&'a str]) -> Option<&'a str>
 
 // The number of one word that is the only one of the words, and of two words.
 fn only_word(words: &[&str]) -> Option<u16>
-    ensures { Finds (λ n. One (λ text. IsWord text n) words.now) result }
+    ensures { Finds (λ n. HasOneWord (λ text. IsWord text n) words.now) result }
 {
     word(only(words)?)
 }
 
 fn only_long(words: &[&str]) -> Option<u32>
-    ensures { Finds (λ n. One (λ text. IsLong text n) words.now) result }
+    ensures { Finds (λ n. HasOneWord (λ text. IsLong text n) words.now) result }
 {
     long(only(words)?)
 }
@@ -144,19 +144,19 @@ fn alone(words: &[&str], line: Line) -> Option<Line>
 }
 
 fn board(words: &[&str]) -> Option<Line>
-    ensures { Finds (Writes (codes "board") words.now) result }
+    ensures { Finds (WritesLine (codes "board") words.now) result }
 {
     Some(Line::Board(side(only(words)?)?))
 }
 
 fn write(words: &[&str]) -> Option<Line>
-    ensures { Finds (Writes (codes "write") words.now) result }
+    ensures { Finds (WritesLine (codes "write") words.now) result }
 {
     Some(Line::Write(only_word(words)?))
 }
 
 fn cycle(words: &[&str]) -> Option<Line>
-    ensures { Finds (Writes (codes "cycle") words.now) result }
+    ensures { Finds (WritesLine (codes "cycle") words.now) result }
 {
     match words {
         [] => Some(Line::Cycle(Inputs::STILL, Inputs::STILL)),
@@ -166,19 +166,19 @@ fn cycle(words: &[&str]) -> Option<Line>
 }
 
 fn command(words: &[&str]) -> Option<Line>
-    ensures { Finds (Writes (codes "command") words.now) result }
+    ensures { Finds (WritesLine (codes "command") words.now) result }
 {
     Some(Line::Command(code(only(words)?)?))
 }
 
 fn run(words: &[&str]) -> Option<Line>
-    ensures { Finds (Writes (codes "run") words.now) result }
+    ensures { Finds (WritesLine (codes "run") words.now) result }
 {
     Some(Line::Run(fitting(only(words)?)?))
 }
 
 fn close(words: &[&str]) -> Option<Line>
-    ensures { Finds (Writes (codes "close") words.now) result }
+    ensures { Finds (WritesLine (codes "close") words.now) result }
 {
     match words {
         [g, w] => Some(Line::Close(gate(*g)?, word(*w)?)),
@@ -216,7 +216,7 @@ impl Packet {
 impl<'a> TryFrom<&'a [&'a str]> for Line {
     type Error = Expected;
 
-    ghost try_from_gives = { λ words r. Says words.now r };
+    ghost try_from_gives = { λ words r. ReadsLine words.now r };
 
     fn try_from(words: &'a [&'a str]) -> Result<Line, Expected> {
         let [verb, rest @ ..] = words else {

@@ -1,4 +1,4 @@
-ghost use Rattle.script.specs.Mnemonics.{Names};
+ghost use Rattle.script.specs.Mnemonics.{NamesCommand};
 
 use board::command::{Command, Whose};
 use gate::breakpoint::BreakMode;
@@ -7,9 +7,9 @@ use gate::profile::ProfileMode;
 use gate::queries::Query;
 use wave::phases::MotorKind;
 
-// The command that a word names. FromStr for Command would have to stand in crate board, which knows no mnemonics.
+/// The command that a word names, or none. Upper and lower case differ.
 pub fn named(word: &str) -> Option<Command>
-    ensures { Names word.now result }
+    ensures { NamesCommand word.now result }
 {
     Some(match word {
         "SET_1" => Command::Status(Whose::First),

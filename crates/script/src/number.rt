@@ -1,7 +1,7 @@
-ghost use Rattle.script.specs.Numbers.{Hex, Decimal, Number, Bits};
+ghost use Rattle.script.specs.Numbers.{WritesHex, WritesDecimal, WritesNumber, HasBits};
 
 fn hexadecimal(digits: &str) -> Option<i64>
-    ensures { Hex digits.now result }
+    ensures { WritesHex digits.now result }
 {
     if digits.starts_with('+') {
         return None;
@@ -10,14 +10,14 @@ fn hexadecimal(digits: &str) -> Option<i64>
 }
 
 fn decimal(word: &str) -> Option<i64>
-    ensures { Decimal word.now result }
+    ensures { WritesDecimal word.now result }
 {
     word.parse::<i64>().ok()
 }
 
-// The number that a word writes: decimal, with or without a sign, or 0x and hexadecimal digits.
+/// The number that a word writes: decimal, with or without a sign, or 0x and hexadecimal digits.
 pub fn number(word: &str) -> Option<i64>
-    ensures { Number word.now result }
+    ensures { WritesNumber word.now result }
 {
     match word.strip_prefix("0x") {
         Some(digits) => hexadecimal(digits),
@@ -25,14 +25,14 @@ pub fn number(word: &str) -> Option<i64>
     }
 }
 
-// Half of the values of one word, and of two.
+/// Half of the values of one word, and of two.
 pub const WORD: u32 = 0x8000;
 
 pub const LONG: u32 = 0x8000_0000;
 
-// The bits of a signed or an unsigned number of a width with 2 × HALF values.
+/// The bits of a signed or an unsigned number of a width with 2 × HALF values.
 pub fn bits_of<const HALF: u32>(number: i64) -> Option<u64>
-    ensures { Bits HALF number result }
+    ensures { HasBits HALF number result }
 {
     let half = i64::from(HALF);
     if number < -half || number >= 2 * half {

@@ -1,14 +1,15 @@
 ghost use Rattle.std.specs.Prelude.{◌∷◌, map};
 ghost use Rattle.board.specs.Acts.{act_command, act_write};
-ghost use Rattle.script.specs.Packets.{Sent, Fetched};
+ghost use Rattle.script.specs.Packets.{Sends, Fetches};
 
 use board::refusal::Refusal;
 use desk::desk::Desk;
 use stage::Stage;
 
-// A command and the words that it takes, in their order.
+/// A command and the words that it takes, in their order.
 pub fn send<S: Stage + Drop>(desk: &mut Desk<S>, code: u8, words: &[u16]) -> Result<(), Refusal>
-    ensures { Sent S.Stage (act_command code ∷ map act_write words.now) result desk.old.board desk.new.board }
+    ensures { Sends S.Stage (act_command code ∷ map act_write words.now) result
+        desk.old.board desk.new.board }
 {
     desk.command(code)?;
     for word in words {
@@ -17,12 +18,12 @@ pub fn send<S: Stage + Drop>(desk: &mut Desk<S>, code: u8, words: &[u16]) -> Res
     Ok(())
 }
 
-// A command, and so many words that it gives, in their order.
+/// A command, and so many words that it gives, in their order.
 pub fn fetch<S: Stage + Drop, const N: usize>(
     desk: &mut Desk<S>,
     code: u8,
 ) -> Result<[u16; N], Refusal>
-    ensures { Fetched S.Stage N code result desk.old.board desk.new.board }
+    ensures { Fetches S.Stage N code result desk.old.board desk.new.board }
 {
     desk.command(code)?;
     let mut words = [0; N];

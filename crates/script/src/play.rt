@@ -1,6 +1,6 @@
 ghost use Rattle.std.specs.Prelude.{◌≡◌, ℕ, Some};
 ghost use Rattle.board.specs.Commands.{code_table};
-ghost use Rattle.script.specs.Plays.{read_as, Shows, Plain, Whole, Played};
+ghost use Rattle.script.specs.Plays.{query_value, Shows, PlaysPlain, PlaysPacket, PlaysLine};
 
 use crate::line::{Line, Packet};
 use crate::packet::{fetch, send};
@@ -14,7 +14,7 @@ use stage::codes::Wires;
 
 // The number that 32 bits stand for in an answer: a velocity register and the clock are unsigned.
 fn signed(query: Query, bits: u32) -> i64
-    ensures { result ≡ read_as query bits }
+    ensures { result ≡ query_value query bits }
 {
     match query {
         Query::Velocity | Query::CycleTime => i64::from(bits),
@@ -28,7 +28,8 @@ fn signed(query: Query, bits: u32) -> i64
 
 // The packet of a command that takes no word.
 fn plain<S: Stage + Drop>(desk: &mut Desk<S>, command: Command) -> Result<Reply, Refusal>
-    ensures { (n : ℕ) × (code_table n ≡ Some command) × Plain S.Stage command n result desk.old.board desk.new.board }
+    ensures { (n : ℕ) × (code_table n ≡ Some command) ×
+        PlaysPlain S.Stage command n result desk.old.board desk.new.board }
 {
     let code = u8::from(command);
     match command {
@@ -48,9 +49,9 @@ fn plain<S: Stage + Drop>(desk: &mut Desk<S>, command: Command) -> Result<Reply,
     }
 }
 
-// The whole packet of a command, up to its end or its first refusal.
+/// The whole packet of a command, up to its end or its first refusal.
 pub fn play_packet<S: Stage + Drop>(desk: &mut Desk<S>, packet: Packet) -> Result<Reply, Refusal>
-    ensures { (n : ℕ) × Whole S.Stage packet n result desk.old.board desk.new.board }
+    ensures { (n : ℕ) × PlaysPacket S.Stage packet n result desk.old.board desk.new.board }
 {
     match packet {
         Packet::Plain(command) => return plain(desk, command),
@@ -63,7 +64,7 @@ pub fn play_packet<S: Stage + Drop>(desk: &mut Desk<S>, packet: Packet) -> Resul
     Ok(Reply::Done)
 }
 
-// Both pairs, as the stage shows them.
+/// Both pairs, as the stage shows them.
 pub fn pairs<S: Stage + Drop>(desk: &Desk<S>) -> Reply
     ensures { Shows S.Stage desk.now.board result }
 {
@@ -71,9 +72,9 @@ pub fn pairs<S: Stage + Drop>(desk: &Desk<S>) -> Reply
     Reply::Pairs(board.pair(1), board.pair(2))
 }
 
-// Plays a line on a board; no reply comes to a line that asks nothing of it.
+/// Plays a line on a board; no reply comes to a line that asks nothing of it.
 pub fn play<S: Wires + Drop>(desk: &mut Desk<S>, line: Line) -> Result<Option<Reply>, Refusal>
-    ensures { Played S.Stage S.codes line result desk.old.board desk.new.board }
+    ensures { PlaysLine S.Stage S.codes line result desk.old.board desk.new.board }
 {
     Ok(Some(match line {
         Line::Nothing | Line::Board(_) => return Ok(None),
@@ -86,8 +87,8 @@ pub fn play<S: Wires + Drop>(desk: &mut Desk<S>, line: Line) -> Result<Option<Re
             Reply::Done
         }
         Line::Read => Reply::Word(desk.read()?),
-        Line::Cycle(left, right) => {
-            desk.cycle(left, right);
+        Line::Cycle(one, two) => {
+            desk.cycle(one, two);
             pairs(desk)
         }
         Line::Run(cycles) => {

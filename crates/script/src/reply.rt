@@ -5,7 +5,7 @@ use board::refusal::Refusal;
 use stage::codes::Codes;
 use std::fmt;
 
-// What a line of a script is answered, unless one of its acts is refused.
+/// What a line of a script is answered, unless one of its acts is refused.
 #[derive(Clone, Copy, Debug, PartialEq, Eq)]
 pub enum Reply {
     Done,
@@ -34,7 +34,7 @@ impl fmt::Display for Reply {
     }
 }
 
-// A reply or a refusal, as the console prints it.
+/// A reply or a refusal, as the console prints it.
 #[derive(Clone, Copy, Debug, PartialEq, Eq)]
 pub struct Answer(pub Result<Reply, Refusal>);
 

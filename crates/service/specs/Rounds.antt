@@ -3,12 +3,12 @@ use Rattle.std.specs.Prelude.{◌≡◌, ℕ, ◌+◌, [], ◌∷◌, Some, None
 use Rattle.stage.specs.declared.Stage.{Ghosts}
 use Rattle.board.specs.declared.board.Board.{Board}
 use Rattle.board.specs.Acts.{act_take, act_close, lendable, state_of}
-use Rattle.board.specs.Runs.{Same}
-use Rattle.board.specs.Sequences.{Performed}
+use Rattle.board.specs.Runs.{BoardUnchanged}
+use Rattle.board.specs.Sequences.{PerformsAll}
 
 -- a gate waits if it calls and has no slip out: no gate waits, and a refused take changes nothing; or the lowest-numbered one that waits
 -- had its slip taken, and closed with a word
-abbrev pub Served : {S : Type 0} (m : Ghosts S) → ℕ → Board S m → Board S m → Option ℕ → Type 0
-Served m w b c None = (lendable (state_of b.table) ≡ None) × Same m b c × Performed m (act_take ∷ []) b c
-Served m w b c (Some n) =
-    (k : ℕ) × (n ≡ k + 1) × (Some k ≡ lendable (state_of b.table)) × Performed m (act_close k w ∷ (act_take ∷ [])) b c
+abbrev pub ServesNext : {S : Type 0} (m : Ghosts S) → ℕ → Board S m → Board S m → Option ℕ → Type 0
+ServesNext m w b c None = (lendable (state_of b.table) ≡ None) × BoardUnchanged m b c × PerformsAll m (act_take ∷ []) b c
+ServesNext m w b c (Some n) =
+    (k : ℕ) × (n ≡ k + 1) × (Some k ≡ lendable (state_of b.table)) × PerformsAll m (act_close k w ∷ (act_take ∷ [])) b c

@@ -65,15 +65,15 @@ mod tests {
 
     #[test]
     fn one_gate_alone(rt: HostRuntime) -> Result<(), Fail> {
-        let mut left = Board::new(Dac::new());
-        let mut right = Board::new(Pwm::new());
-        assert!(rt; start(&mut left).is_ok());
-        assert!(rt; start(&mut right).is_ok());
-        assert!(rt; left.command(0x02).is_ok());
-        assert_eq!(rt; left.read(), Ok(0x1000));
-        assert!(rt; long(&mut left, 0x10, 0, 900).is_ok());
+        let mut a = Board::new(Dac::new());
+        let mut b = Board::new(Pwm::new());
+        assert!(rt; start(&mut a).is_ok());
+        assert!(rt; start(&mut b).is_ok());
+        assert!(rt; a.command(0x02).is_ok());
+        assert_eq!(rt; a.read(), Ok(0x1000));
+        assert!(rt; long(&mut a, 0x10, 0, 900).is_ok());
         for _ in 0..4 {
-            left.cycle(
+            a.cycle(
                 Inputs::STILL,
                 Inputs {
                     count: 5,
@@ -82,15 +82,15 @@ mod tests {
                     home: true,
                 },
             );
-            right.cycle(Inputs::STILL, Inputs::STILL);
+            b.cycle(Inputs::STILL, Inputs::STILL);
         }
-        let found = compare(&left, &right, 1).ok_or("gate 1 is a gate")?;
+        let found = compare(&a, &b, 1).ok_or("gate 1 is a gate")?;
         assert!(rt; found.same);
         assert!(rt; found.apart.0 < 128 && found.apart.1 < 128);
-        assert!(rt; compare(&left, &right, 3).is_none());
-        assert_eq!(rt; serve(&mut left, 0xfffe), Some(1));
-        assert_eq!(rt; serve(&mut left, 0xfffe), None);
-        assert_eq!(rt; serve(&mut right, 0xffff), Some(1));
+        assert!(rt; compare(&a, &b, 3).is_none());
+        assert_eq!(rt; serve(&mut a, 0xfffe), Some(1));
+        assert_eq!(rt; serve(&mut a, 0xfffe), None);
+        assert_eq!(rt; serve(&mut b, 0xffff), Some(1));
         Ok(())
     }
 

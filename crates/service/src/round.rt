@@ -1,11 +1,11 @@
-ghost use Rattle.service.specs.Rounds.{Served};
+ghost use Rattle.service.specs.Rounds.{ServesNext};
 
 use board::board::Board;
 use stage::Stage;
 
-// Serves the call of the lowest-numbered gate that has no slip out, and answers its number, or none where there is no such gate.
+/// Serves the call of the lowest-numbered gate that has no slip out, and answers its number, or none where there is no such gate.
 pub fn serve<S: Stage + Drop>(board: &mut Board<S>, word: u16) -> Option<u8>
-    ensures { Served S.Stage word board.old board.new result }
+    ensures { ServesNext S.Stage word board.old board.new result }
 {
     let Ok(slip) = board.take() else {
         return None;

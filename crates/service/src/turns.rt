@@ -1,12 +1,12 @@
 ghost use Rattle.std.specs.Prelude.{◌≡◌, true, false, is_some, None};
 ghost use Rattle.board.specs.Acts.{lendable, state_of};
-ghost use Rattle.service.specs.Turns.{InHand, InTurn, Picked, Put};
+ghost use Rattle.service.specs.Turns.{IsInHand, ServesInTurn, Picks, Puts};
 
 use board::board::Board;
 use board::slip::Slip;
 use stage::Stage;
 
-// How many calls were served.
+/// How many calls were served.
 #[derive(Clone, Copy, PartialEq, Debug)]
 pub enum Served {
     Neither,
@@ -19,8 +19,8 @@ pub enum Served {
 fn pick<S: Stage + Drop>(board: &mut Board<S>, hand: &mut Option<Slip>) -> bool
     requires { hand.old ≡ None }
     ensures held { result ≡ is_some hand.new }
-    ensures out { InHand board.new hand.new }
-    ensures picked { Picked S.Stage hand.new board.old board.new }
+    ensures out { IsInHand board.new hand.new }
+    ensures picked { Picks S.Stage hand.new board.old board.new }
     ensures none { result ≡ false → lendable (state_of board.old.table) ≡ None }
 {
     let Ok(slip) = board.take() else {
@@ -33,20 +33,20 @@ fn pick<S: Stage + Drop>(board: &mut Board<S>, hand: &mut Option<Slip>) -> bool
 // Closes the slip in the hand.
 fn put<S: Stage + Drop>(board: &mut Board<S>, hand: &mut Option<Slip>, word: u16)
     requires held { is_some hand.old ≡ true }
-    requires out { InHand board.old hand.old }
+    requires out { IsInHand board.old hand.old }
     ensures empty { hand.new ≡ None }
-    ensures put { Put S.Stage word hand.old board.old board.new }
+    ensures put { Puts S.Stage word hand.old board.old board.new }
 {
     let slip = hand.take().unwrap();
     board.close(slip, word).unwrap();
 }
 
-// Serves two calls, one slip after the other, each with a word of its own.
+/// Serves two calls, one slip after the other, each with a word of its own.
 pub fn serve_in_turn<S: Stage + Drop>(board: &mut Board<S>, first: u16, second: u16) -> Served
     ensures stage { board.new.stage ≡ board.old.stage }
     ensures shows { S.Stage.pairs board.new.stage ≡ S.Stage.pairs board.old.stage }
     ensures neither { result ≡ Served.Neither → lendable (state_of board.old.table) ≡ None }
-    ensures served { InTurn S.Stage first second result board.old board.new }
+    ensures served { ServesInTurn S.Stage first second result board.old board.new }
 {
     let mut hand = None;
     let one = pick(board, &mut hand);

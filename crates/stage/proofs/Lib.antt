@@ -1,3 +1,3 @@
-pub mod Cuts
+pub mod Quantizing
 pub mod Ends
 pub mod Wires

@@ -3,8 +3,8 @@ use Rattle.std.specs.Prelude.{◌≡◌, ℕ, true, List, [], ◌∷◌, ◌++�
 use Rattle.std.specs.List.{join_with_byte}
 use Rattle.stage.specs.Levels.{levels}
 use Rattle.stage.specs.Pairs.{Pairs}
-use Rattle.stage.specs.Dac.{number as word_number}
-use Rattle.stage.specs.Pulse.{number as pulse_number, zeros_positive}
+use Rattle.stage.specs.Dac.{dac_number as word_number}
+use Rattle.stage.specs.Pulse.{pulse_number as pulse_number, have_no_negative_zero}
 use Rattle.stage.specs.declared.pulse.Pulse.{Pulse}
 use Rattle.stage.specs.declared.codes.Codes.{Codes}
 use Rattle.stage.specs.declared.codes.Codes.TheVariants.{Words, Pulses}
@@ -12,7 +12,7 @@ use Rattle.stage.specs.declared.codes.Codes.TheVariants.{Words, Pulses}
 -- the codes stand for the pairs; a magnitude of 0 has the positive sign
 abbrev pub StandsFor : Pairs → Codes → Type 0
 StandsFor p (Words one two) = levels word_number one two ≡ p
-StandsFor p (Pulses one two) = (levels pulse_number one two ≡ p) × (zeros_positive one ≡ true) × (zeros_positive two ≡ true)
+StandsFor p (Pulses one two) = (levels pulse_number one two ≡ p) × (have_no_negative_zero one ≡ true) × (have_no_negative_zero two ≡ true)
 
 -- a sign, also where it is positive, and a magnitude
 abbrev pub pulse_text : Pulse → List ℕ

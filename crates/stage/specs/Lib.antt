@@ -1,4 +1,4 @@
-pub mod Cut
+pub mod Quantize
 pub mod Pairs
 pub mod Levels
 pub mod Dac

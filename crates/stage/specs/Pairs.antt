@@ -1,6 +1,6 @@
 -- The numbers that a stage stands for: a pair of phases, A and B, for each of the gates 1 and 2.
 use Rattle.std.specs.Prelude.{ℕ, ◌≤◌, Bool, cond, ◌||◌, ℤ, pos, ◌==◌, unsigned_abs}
-use Rattle.stage.specs.Cut.{cut}
+use Rattle.stage.specs.Quantize.{quantize}
 
 abbrev pub Pair : Type 0
 Pair = ℤ × ℤ
@@ -13,8 +13,8 @@ abbrev pub zero_pair : Pair
 zero_pair = (pos 0, pos 0)
 
 -- both gates at 0, 0
-abbrev pub dark : Pairs
-dark = record { one = zero_pair; two = zero_pair }
+abbrev pub zero_pairs : Pairs
+zero_pairs = record { one = zero_pair; two = zero_pair }
 
 -- whether a number names a gate
 abbrev pub is_gate : ℕ → Bool
@@ -25,18 +25,18 @@ abbrev pub pair_of : Pairs → ℕ → Pair
 pair_of p gate = cond (gate == 1) p.one (cond (gate == 2) p.two zero_pair)
 
 -- what a stage of a step keeps of a pair
-abbrev pub cut_pair : ℕ → Pair → Pair
-cut_pair step p = (cut step p.0, cut step p.1)
+abbrev pub quantized_pair : ℕ → Pair → Pair
+quantized_pair step p = (quantize step p.0, quantize step p.1)
 
--- the pairs after a show: the gate's own is cut to the step, and the other stays
-abbrev pub shown : ℕ → Pairs → ℕ → ℤ → ℤ → Pairs
-shown step p gate a b =
+-- the pairs after a show: the gate's own is quantized to the step, and the other stays
+abbrev pub pairs_after_show : ℕ → Pairs → ℕ → ℤ → ℤ → Pairs
+pairs_after_show step p gate a b =
     record {
-      one = cond (gate == 1) (cut_pair step (a, b)) p.one;
-      two = cond (gate == 2) (cut_pair step (a, b)) p.two;
+      one = cond (gate == 1) (quantized_pair step (a, b)) p.one;
+      two = cond (gate == 2) (quantized_pair step (a, b)) p.two;
     }
 
 -- no make holds more than this, so a number of a pair can be negated
-pub record Bounded (p : Pair) : Type 0 where
+pub record IsBounded (p : Pair) : Type 0 where
   pub first : unsigned_abs p.0 ≤ 65536
   pub second : unsigned_abs p.1 ≤ 65536

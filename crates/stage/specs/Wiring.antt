@@ -3,12 +3,12 @@ use Rattle.std.specs.Prelude.{cond, ℤ, neg_ℤ}
 use Rattle.stage.specs.declared.wiring.Wire.{Wire}
 use Rattle.stage.specs.Pairs.{Pair, Pairs}
 
-abbrev pub turned : Wire → ℤ → ℤ
-turned w a = cond w.negated (neg_ℤ a) a
+abbrev pub with_polarity : Wire → ℤ → ℤ
+with_polarity w a = cond w.negated (neg_ℤ a) a
 
 -- the pair below, with the wiring undone
-abbrev pub undone : Wire → Pair → Pair
-undone w p = cond w.exchanged (turned w p.1, p.0) (turned w p.0, p.1)
+abbrev pub unwired : Wire → Pair → Pair
+unwired w p = cond w.exchanged (with_polarity w p.1, p.0) (with_polarity w p.0, p.1)
 
-abbrev pub undone_pairs : Wire → Wire → Pairs → Pairs
-undone_pairs one two p = record { one = undone one p.one; two = undone two p.two }
+abbrev pub unwired_pairs : Wire → Wire → Pairs → Pairs
+unwired_pairs one two p = record { one = unwired one p.one; two = unwired two p.two }

@@ -5,14 +5,14 @@ use crate::Stage;
 use crate::pulse::Pulse;
 use std::fmt;
 
-// What a make has on its wires for phases A and B: of gate 1, and of gate 2.
+/// What a make has on its wires for phases A and B: of gate 1, and of gate 2.
 #[derive(Clone, Copy, PartialEq, Eq, Debug)]
 pub enum Codes {
     Words((u16, u16), (u16, u16)),
     Pulses((Pulse, Pulse), (Pulse, Pulse)),
 }
 
-// A make whose wires can be looked at.
+/// A make whose wires can be looked at.
 pub trait Wires: Stage {
     ghost use Rattle.stage.specs.declared.codes.Codes.{Codes};
 

@@ -1,13 +1,13 @@
 ghost use Rattle.std.specs.Prelude.{◌≡◌, ◌<◌, ◌≤◌, pos, ◌+ℤ◌, MatchOption};
-ghost use Rattle.stage.specs.Dac.{number, dac_pairs, addressed};
+ghost use Rattle.stage.specs.Dac.{dac_number, dac_pairs, number_at_address};
 ghost use Rattle.stage.specs.declared.codes.Codes.TheVariants.{Words};
 ghost use Rattle.std.proofs.Common.{rules};
 
 use crate::codes::{Codes, Wires};
-use crate::cut::cut;
 use crate::levels::{Form, Levels};
+use crate::quantize::quantize;
 
-// A 16-bit word of a DAC: the number plus 32,768.
+/// A 16-bit word of a DAC: the number plus 32,768.
 #[derive(Clone, Copy)]
 pub struct Word(u16);
 
@@ -16,12 +16,12 @@ impl Form for Word {
 
     ghost STEP = { 1 };
 
-    ghost number_of = { λ w. number w.0 };
+    ghost number_of = { λ w. dac_number w.0 };
 
     ghost range = { Prim.search rules };
 
     fn keep(x: i32) -> Self {
-        Word((cut(Self::STEP, x) + 32768) as u16)
+        Word((quantize(Self::STEP, x) + 32768) as u16)
     }
 
     fn number(self) -> i32 {
@@ -29,13 +29,15 @@ impl Form for Word {
     }
 }
 
-// Four words, one for each phase of each gate.
+/// Four words, one for each phase of each gate.
 pub type Dac = Levels<Word>;
 
 impl Levels<Word> {
-    // The word at an address: 0 and 1 are gate 1, phases A and B, and 2 and 3 gate 2; there is no other.
+    /// The word at an address: 0 and 1 are gate 1, phases A and B, and 2 and 3 gate 2; there is no other.
     pub fn word(&self, address: u8) -> Option<u16>
-        ensures { MatchOption result (4 ≤ address) (λ w. (address < 4) × (pos w ≡ addressed (dac_pairs self.now) address +ℤ pos 32768)) }
+        ensures { MatchOption result
+            (4 ≤ address) (λ w. (address < 4) ×
+            (pos w ≡ number_at_address (dac_pairs self.now) address +ℤ pos 32768)) }
     {
         let word = match address {
             0 => self.one.0,

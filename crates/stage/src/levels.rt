@@ -1,12 +1,12 @@
 ghost use Rattle.std.specs.Prelude.{◌≡◌, ℕ, ℤ, ◌≤◌, unsigned_abs};
-ghost use Rattle.stage.specs.Cut.{cut};
+ghost use Rattle.stage.specs.Quantize.{quantize};
 ghost use Rattle.stage.specs.Levels.{levels};
-ghost use Rattle.stage.specs.Pairs.{dark};
+ghost use Rattle.stage.specs.Pairs.{zero_pairs};
 ghost use Rattle.std.proofs.Common.{rules};
 
 use crate::Stage;
 
-// The form in which a make keeps a number on its wires.
+/// The form in which a make keeps a number on its wires.
 pub trait Form: Clone + Copy {
     // What every number kept is a multiple of.
     const STEP: u8;
@@ -17,7 +17,7 @@ pub trait Form: Clone + Copy {
 
     // What the step leaves of a number.
     fn keep(x: i32) -> Self
-        ensures { number_of result ≡ cut STEP x };
+        ensures { number_of result ≡ quantize STEP x };
 
     fn number(self) -> i32
         ensures is { result ≡ number_of self }
@@ -26,7 +26,7 @@ pub trait Form: Clone + Copy {
     ghost range: { (1 ≤ STEP) × (STEP ≤ 128) };
 }
 
-// A stage that keeps every number in one form: phases A and B, of gate 1 and of gate 2.
+/// A stage that keeps every number in one form: phases A and B, of gate 1 and of gate 2.
 #[derive(Clone, Copy)]
 pub struct Levels<F: Form> {
     pub(crate) one: (F, F),
@@ -34,9 +34,9 @@ pub struct Levels<F: Form> {
 }
 
 impl<F: Form> Levels<F> {
-    #[tactic(auto, using(crate::proofs::Cuts::cut_zero))]
+    #[tactic(auto, using(crate::proofs::Quantizing::quantize_zero))]
     pub fn new() -> Levels<F>
-        ensures { levels F.Form.number_of result.one result.two ≡ dark }
+        ensures { levels F.Form.number_of result.one result.two ≡ zero_pairs }
     {
         let off = F::keep(0);
         Levels {

@@ -2,18 +2,18 @@
 #![tactic(auto)]
 
 ghost use Rattle.std.specs.Prelude.{◌≡◌, ℕ, ◌≤◌};
-ghost use Rattle.stage.specs.Pairs.{Pairs, Bounded, pair_of, shown};
+ghost use Rattle.stage.specs.Pairs.{Pairs, IsBounded, pair_of, pairs_after_show};
 
 pub mod codes;
-pub mod cut;
 pub mod dac;
 pub mod levels;
 pub mod pulse;
 pub mod pwm;
+pub mod quantize;
 pub mod wiring;
 
-// A stage stands for one pair of phase numbers, A and B, for each of the gates 1 and 2. A gate is named by its number, since every other
-// number has its answer too.
+/// A stage stands for one pair of phase numbers, A and B, for each of the gates 1 and 2. A gate is named by its number, since every other
+/// number has its answer too.
 pub trait Stage {
     // What every number shown is a multiple of.
     const STEP: u8;
@@ -31,12 +31,12 @@ pub trait Stage {
 
     // Shows two numbers on a gate; a gate other than 1 or 2 changes nothing.
     fn show(&mut self, gate: u8, a: i32, b: i32)
-        ensures { pairs self.new ≡ shown STEP (pairs self.old) gate a b };
+        ensures { pairs self.new ≡ pairs_after_show STEP (pairs self.old) gate a b };
 
     // The pair that a gate shows; (0, 0) for a gate other than 1 or 2.
     fn pair(&self, gate: u8) -> (i32, i32)
         ensures is { result ≡ pair_of (pairs self.now) gate }
-        ensures bounded { Bounded result };
+        ensures bounded { IsBounded result };
 
     ghost range: { (1 ≤ STEP) × (STEP ≤ 128) };
 }
@@ -44,20 +44,20 @@ pub trait Stage {
 #[cfg(test)]
 mod tests {
     use crate::Stage;
-    use crate::cut::cut;
     use crate::dac::Dac;
     use crate::pulse::Pulse;
     use crate::pwm::Pwm;
+    use crate::quantize::quantize;
     use crate::wiring::{Wire, Wiring};
 
     #[test]
     fn cuts_toward_zero(rt: HostRuntime) {
-        assert_eq!(rt; cut(128, 127), 0);
-        assert_eq!(rt; cut(128, -127), 0);
-        assert_eq!(rt; cut(128, -32767), -32640);
-        assert_eq!(rt; cut(3, -32768), -32766);
-        assert_eq!(rt; cut(1, i32::MIN), -32767);
-        assert_eq!(rt; cut(0, 5), 0);
+        assert_eq!(rt; quantize(128, 127), 0);
+        assert_eq!(rt; quantize(128, -127), 0);
+        assert_eq!(rt; quantize(128, -32767), -32640);
+        assert_eq!(rt; quantize(3, -32768), -32766);
+        assert_eq!(rt; quantize(1, i32::MIN), -32767);
+        assert_eq!(rt; quantize(0, 5), 0);
     }
 
     #[test]

@@ -1,19 +1,19 @@
 ghost use Rattle.std.specs.Prelude.{◌≡◌, true, false, IfSome, MatchOption};
 ghost use Rattle.stage.specs.Pairs.{is_gate, pair_of};
-ghost use Rattle.stage.specs.Pulse.{number, numbers, zero_positive, zeros_positive};
+ghost use Rattle.stage.specs.Pulse.{pulse_number, pulse_numbers, has_no_negative_zero, have_no_negative_zero};
 ghost use Rattle.stage.specs.declared.codes.Codes.TheVariants.{Pulses};
 ghost use Rattle.std.proofs.Common.{rules};
 
 use crate::codes::{Codes, Wires};
-use crate::cut::cut;
 use crate::levels::{Form, Levels};
 use crate::pulse::Pulse;
+use crate::quantize::quantize;
 
-// The two lines of a phase; off, they have the positive sign.
+/// The two lines of a phase; off, they have the positive sign.
 #[derive(Clone, Copy)]
 pub struct Lines {
     pulse: Pulse,
-    ghost plus: { zero_positive pulse ≡ true },
+    ghost plus: { has_no_negative_zero pulse ≡ true },
 }
 
 impl Form for Lines {
@@ -21,12 +21,12 @@ impl Form for Lines {
 
     ghost STEP = { 128 };
 
-    ghost number_of = { λ l. number l.pulse };
+    ghost number_of = { λ l. pulse_number l.pulse };
 
     ghost range = { Prim.search rules };
 
     fn keep(x: i32) -> Self {
-        let kept = cut(Self::STEP, x);
+        let kept = quantize(Self::STEP, x);
         let magnitude = (kept.unsigned_abs() / 128) as u8;
         Lines {
             pulse: Pulse {
@@ -42,16 +42,18 @@ impl Form for Lines {
     }
 }
 
-// A magnitude and a sign for each phase of each gate.
+/// A magnitude and a sign for each phase of each gate.
 pub type Pwm = Levels<Lines>;
 
 impl Levels<Lines> {
     ghost use Rattle.stage.specs.Pwm.{pwm_pairs};
 
-    // What a gate has on the lines of its phases A and B; a gate other than 1 or 2 has no lines.
+    /// What a gate has on the lines of its phases A and B; a gate other than 1 or 2 has no lines.
     pub fn pulses(&self, gate: u8) -> Option<(Pulse, Pulse)>
-        ensures is { MatchOption result (is_gate gate ≡ false) (λ p. (is_gate gate ≡ true) × (numbers p ≡ pair_of (pwm_pairs self.now) gate)) }
-        ensures sign { IfSome result (λ p. zeros_positive p ≡ true) }
+        ensures is { MatchOption result
+            (is_gate gate ≡ false)
+            (λ p. (is_gate gate ≡ true) × (pulse_numbers p ≡ pair_of (pwm_pairs self.now) gate)) }
+        ensures sign { IfSome result (λ p. have_no_negative_zero p ≡ true) }
     {
         let (a, b) = match gate {
             1 => self.one,

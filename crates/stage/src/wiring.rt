@@ -1,12 +1,12 @@
 ghost use Rattle.std.specs.Prelude.{◌≡◌, ℕ, neg_ℤ};
-ghost use Rattle.stage.specs.Cut.{cut};
-ghost use Rattle.stage.specs.Pairs.{Bounded, cut_pair, shown};
-ghost use Rattle.stage.specs.Wiring.{undone, undone_pairs};
+ghost use Rattle.stage.specs.Quantize.{quantize};
+ghost use Rattle.stage.specs.Pairs.{IsBounded, quantized_pair, pairs_after_show};
+ghost use Rattle.stage.specs.Wiring.{unwired, unwired_pairs};
 ghost use Rattle.std.proofs.Common.{rules};
 
 use crate::Stage;
 
-// How one gate's phases are wired to the stage below.
+/// How one gate's phases are wired to the stage below.
 #[derive(Clone, Copy, PartialEq, Eq, Debug, Default)]
 pub struct Wire {
     // the two phases change places
@@ -15,7 +15,7 @@ pub struct Wire {
     pub negated: bool,
 }
 
-// Any stage, with the wires of each gate's phases exchanged or negated.
+/// Any stage, with the wires of each gate's phases exchanged or negated.
 #[derive(Drop)]
 pub struct Wiring<S: Stage + Drop> {
     below: S,
@@ -47,23 +47,23 @@ impl<S: Stage + Drop> Wiring<S> {
 
 // The number the other way round; the lowest, which has no opposite, is past the end in any case.
 fn opposite(x: i32) -> i32
-    ensures { (step : ℕ) → cut step result ≡ neg_ℤ (cut step x) }
+    ensures { (step : ℕ) → quantize step result ≡ neg_ℤ (quantize step x) }
 {
     if x < -32767 { 32767 } else { -x }
 }
 
 // What is to be shown below, so that the board's numbers are seen above.
 fn wired(wire: Wire, a: i32, b: i32) -> (i32, i32)
-    ensures { (step : ℕ) → undone wire (cut_pair step result) ≡ cut_pair step (a, b) }
+    ensures { (step : ℕ) → unwired wire (quantized_pair step result) ≡ quantized_pair step (a, b) }
 {
     let a = if wire.negated { opposite(a) } else { a };
     if wire.exchanged { (b, a) } else { (a, b) }
 }
 
 fn unwired(wire: Wire, pair: (i32, i32)) -> (i32, i32)
-    requires { Bounded pair }
-    ensures is { result ≡ undone wire pair }
-    ensures bounded { Bounded result }
+    requires { IsBounded pair }
+    ensures is { result ≡ unwired wire pair }
+    ensures bounded { IsBounded result }
 {
     let (a, b) = if wire.exchanged {
         (pair.1, pair.0)
@@ -78,12 +78,13 @@ impl<S: Stage + Drop> Stage for Wiring<S> {
 
     ghost STEP = { S.Stage.STEP };
 
-    ghost pairs = { λ s. undone_pairs s.one s.two (S.Stage.pairs s.below) };
+    ghost pairs = { λ s. unwired_pairs s.one s.two (S.Stage.pairs s.below) };
 
     ghost range = { Prim.search rules };
 
     fn show(&mut self, gate: u8, a: i32, b: i32)
-        ensures pairs { undone_pairs self.new.one self.new.two (S.Stage.pairs self.new.below) ≡ shown S.Stage.STEP (undone_pairs self.old.one self.old.two (S.Stage.pairs self.old.below)) gate a b }
+        ensures pairs { unwired_pairs self.new.one self.new.two (S.Stage.pairs self.new.below) ≡
+            pairs_after_show S.Stage.STEP (unwired_pairs self.old.one self.old.two (S.Stage.pairs self.old.below)) gate a b }
         ensures wires { (self.new.one ≡ self.old.one) × (self.new.two ≡ self.old.two) }
     {
         let (a, b) = wired(self.wire(gate), a, b);

@@ -8,12 +8,13 @@ use Rattle.gate.specs.declared.orders.LongOrder.TheVariants.{Destination, Veloci
 use Rattle.gate.specs.declared.orders.OutOfRange.{OutOfRange}
 use Rattle.gate.specs.declared.orders.WordOrder.TheVariants.{BufferedPower}
 use Rattle.gate.specs.declared.load.Load.TheVariants as load
-use Rattle.gate.specs.Gates.{erred}
-use Rattle.gate.specs.Loads.{loaded}
-use Rattle.gate.specs.Orders.{checked, long_fits, long_run, ran_long, ran_word, word_fits, word_run}
+use Rattle.gate.specs.Gates.{with_command_error}
+use Rattle.gate.specs.Loads.{with_load}
+use Rattle.gate.specs.Orders.{value_if_fits, long_fits, with_long, run_long, run_word, word_fits, with_word}
 
 -- the gate goes on to the next register just where the value fits
-pub goes_on : {F : Type 0} (fits : Bool) (f : F) (r : Result (Unit {0}) OutOfRange) (s : Result (Unit {0}) F) → r ≡ checked fits tt → s ≡ result_or r (Err f) → fits ≡ is_ok s
+pub goes_on : {F : Type 0} (fits : Bool) (f : F) (r : Result (Unit {0}) OutOfRange) (s : Result (Unit {0}) F) → r ≡ value_if_fits fits tt
+    → s ≡ result_or r (Err f) → fits ≡ is_ok s
 goes_on true f r s e h = sym (ap is_ok (h ∙ ap (λ x. result_or x (Err f)) e))
 goes_on false f r s e h = sym (ap is_ok (h ∙ ap (λ x. result_or x (Err f)) e))
 
@@ -29,17 +30,19 @@ pub fits_bits : (fits : ℤ → Bool) (z : ℤ) (v : ℕ) → SFits w32 z → v 
 fits_bits fits z v f b = sym (ap fits (stands z v f b))
 
 -- the record after an order whose value fits
-runs : (o : LongOrder) (v : ℕ) (g h : Gate) → h ≡ ran_long o v g → long_fits o v ≡ true → h ≡ long_run o v g
-runs o v g h e fits = e ∙ ap (λ b. cond b (long_run o v g) (erred g)) fits
+runs : (o : LongOrder) (v : ℕ) (g h : Gate) → h ≡ run_long o v g → long_fits o v ≡ true → h ≡ with_long o v g
+runs o v g h e fits = e ∙ ap (λ b. cond b (with_long o v g) (with_command_error g)) fits
 
-pub sends : (z : ℤ) (v : ℕ) (g h : Gate) → SFits w32 z → v ≡ of_z w32 (to_z w32 (of_z w32 z)) → h ≡ ran_long Destination v g → long_fits Destination v ≡ true → h ≡ loaded (load.Destination z) g
-sends z v g h f b e fits = runs Destination v g h e fits ∙ ap (λ x. loaded (load.Destination x) g) (stands z v f b)
+pub sends : (z : ℤ) (v : ℕ) (g h : Gate) → SFits w32 z → v ≡ of_z w32 (to_z w32 (of_z w32 z)) → h ≡ run_long Destination v g
+    → long_fits Destination v ≡ true → h ≡ with_load (load.Destination z) g
+sends z v g h f b e fits = runs Destination v g h e fits ∙ ap (λ x. with_load (load.Destination x) g) (stands z v f b)
 
-pub speeds : (v : ℕ) (g h : Gate) → h ≡ ran_long Velocity v g → long_fits Velocity v ≡ true → h ≡ loaded (load.Velocity v) g
+pub speeds : (v : ℕ) (g h : Gate) → h ≡ run_long Velocity v g → long_fits Velocity v ≡ true → h ≡ with_load (load.Velocity v) g
 speeds v g h e fits = runs Velocity v g h e fits
 
-pub hastens : (z : ℤ) (v : ℕ) (g h : Gate) → SFits w32 z → v ≡ of_z w32 (to_z w32 (of_z w32 z)) → h ≡ ran_long Acceleration v g → long_fits Acceleration v ≡ true → h ≡ loaded (load.Acceleration z) g
-hastens z v g h f b e fits = runs Acceleration v g h e fits ∙ ap (λ x. loaded (load.Acceleration x) g) (stands z v f b)
+pub hastens : (z : ℤ) (v : ℕ) (g h : Gate) → SFits w32 z → v ≡ of_z w32 (to_z w32 (of_z w32 z)) → h ≡ run_long Acceleration v g
+    → long_fits Acceleration v ≡ true → h ≡ with_load (load.Acceleration z) g
+hastens z v g h f b e fits = runs Acceleration v g h e fits ∙ ap (λ x. with_load (load.Acceleration x) g) (stands z v f b)
 
-pub powers : (w : ℕ) (g h : Gate) → h ≡ ran_word BufferedPower w g → word_fits BufferedPower w ≡ true → h ≡ loaded (load.Power w) g
-powers w g h e fits = e ∙ ap (λ b. cond b (word_run BufferedPower w g) (erred g)) fits
+pub powers : (w : ℕ) (g h : Gate) → h ≡ run_word BufferedPower w g → word_fits BufferedPower w ≡ true → h ≡ with_load (load.Power w) g
+powers w g h e fits = e ∙ ap (λ b. cond b (with_word BufferedPower w g) (with_command_error g)) fits

@@ -1,17 +1,17 @@
 -- What one line of a journey holds.
 use Rattle.std.specs.Prelude.{◌≡◌, ℕ, cond, not, List, codes}
-use Rattle.motion.specs.Course.{whole_steps}
+use Rattle.motion.specs.Course.{microsteps}
 use Rattle.gate.specs.declared.gate.Gate.{Gate}
 use Rattle.gate.specs.Clock.{time}
-use Rattle.gate.specs.Cycles.{at_rest, shows}
+use Rattle.gate.specs.Cycles.{at_rest, gate_phases}
 use Rattle.travel.specs.declared.row.Row.{Row}
 
 -- the row shows the gate as it stands
-pub record Shown (g : Gate) (r : Row) : Type 0 where
+pub record ShowsGate (g : Gate) (r : Row) : Type 0 where
   pub cycle : r.cycle ≡ time g.clock
   pub velocity : r.velocity ≡ g.motion.velocity
-  pub target : r.target ≡ whole_steps g.motion.target
-  pub phases : r.phases ≡ shows g
+  pub target : r.target ≡ microsteps g.motion.target
+  pub phases : r.phases ≡ gate_phases g
   pub complete : r.complete ≡ g.events.complete
   pub moving : r.moving ≡ not (at_rest g)
 

@@ -1,9 +1,9 @@
 ghost use Rattle.std.specs.Prelude.{map, string_bytes};
-ghost use Rattle.travel.specs.Plans.{Read, Written};
+ghost use Rattle.travel.specs.Plans.{ReadsPlanWords, ReadsPlan};
 
 use thiserror::Error;
 
-// Where a gate is sent, and how.
+/// Where a gate is sent, and how.
 #[derive(Clone, Copy, Debug, PartialEq, Eq)]
 pub struct Plan {
     // in microsteps
@@ -15,7 +15,7 @@ pub struct Plan {
     pub power: u16,
 }
 
-// What is wrong with a plan.
+/// What is wrong with a plan.
 #[derive(Clone, Copy, Debug, PartialEq, Eq, Error)]
 pub enum Fault {
     #[error("the destination is a whole number from -1073741824 to 1073741823")]
@@ -31,14 +31,14 @@ pub enum Fault {
 }
 
 impl Plan {
-    // The plan that four words write; its numbers may still be out of range.
+    /// The plan that four words write; its numbers may still be out of range.
     pub fn read(
         destination: &str,
         velocity: &str,
         acceleration: &str,
         power: &str,
     ) -> Result<Plan, Fault>
-        ensures { Read destination.now velocity.now acceleration.now power.now result }
+        ensures { ReadsPlanWords destination.now velocity.now acceleration.now power.now result }
     {
         Ok(Plan {
             destination: destination.parse().map_err(|_| Fault::Destination)?,
@@ -56,7 +56,7 @@ const POWER: &str = "16384";
 impl TryFrom<&[String]> for Plan {
     type Error = Fault;
 
-    ghost try_from_gives = { λ words r. Written (map string_bytes words.now) r };
+    ghost try_from_gives = { λ words r. ReadsPlan (map string_bytes words.now) r };
 
     fn try_from(words: &[String]) -> Result<Plan, Fault> {
         match words {

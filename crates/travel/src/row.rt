@@ -3,7 +3,7 @@ ghost use Rattle.travel.specs.Rows.{state_word};
 
 use std::fmt;
 
-// One cycle of a journey.
+/// One cycle of a journey.
 #[derive(Clone, Copy, Debug, PartialEq, Eq)]
 pub struct Row {
     pub cycle: u32,

@@ -1,6 +1,6 @@
 -- A test that passes at each number below n, computed once, holds at each of them.
 use Rattle.std.proofs.Common.{◌≡◌, ℕ, zero, suc, ◌+◌, ◌<◌, Bool, true, false, ◌&&◌, T, leb, ◌⊎◌, sym, subst, inl, inr, not-suc-le-zero, arith, leb→le}
-use Rattle.wave.specs.Quarter.{Near}
+use Rattle.wave.specs.Quarter.{DifferByAtMost}
 
 abbrev pub every : (ℕ → Bool) → ℕ → Bool
 every f zero = true
@@ -28,7 +28,7 @@ at f (suc n) t k h =
 abbrev pub nearb : ℕ → ℕ → ℕ → Bool
 nearb d a b = leb a (b + d) && leb b (a + d)
 
-pub near : (d a b : ℕ) → T (nearb d a b) → Near d a b
+pub near : (d a b : ℕ) → T (nearb d a b) → DifferByAtMost d a b
 near d a b t =
     record {
       above = leb→le a (b + d) (left (leb a (b + d)) (leb b (a + d)) t);

@@ -4,8 +4,8 @@ use Rattle.std.proofs.lemmas.Nat.{mul-le, div-add-mod'}
 use Rattle.std.specs.List.{range_with_len}
 use Rattle.std.proofs.lemmas.Int.{ints}
 use Rattle.std.proofs.lemmas.List.FromFn.{get_or-map-range_with_len}
-use Rattle.wave.specs.Phases.{scaled}
-use Rattle.wave.specs.Wave.{along, half}
+use Rattle.wave.specs.Phases.{scaled_by_power}
+use Rattle.wave.specs.Wave.{with_half_sign, half}
 use Rattle.wave.proofs.Every.{at}
 
 -- the half wave as a list
@@ -26,17 +26,19 @@ pub reciprocal : (n : ℕ) → n ≤ 2 ^ 31 → (n + 1) * 1073774593 / 2 ^ 45 �
 reciprocal n h = omega arith
 
 -- a sign changes no size
-pub along_size : (place n : ℕ) → nat_abs (along place n) ≡ n
-along_size place n = go (ltb place 128)
+pub with_half_sign_size : (place n : ℕ) → nat_abs (with_half_sign place n) ≡ n
+with_half_sign_size place n = go (ltb place 128)
   where
     go : (b : Bool) → nat_abs (cond b (pos n) (neg_ℤ (pos n))) ≡ n
     go true = refl
     go false = omega (arith, ints)
 
 -- what is scaled is the size
-pub scaled_along : (power place n : ℕ) → scaled power (along place n) ≡ along place (n * power / 32767)
-scaled_along power place n = go (ltb place 128) n
+pub scaled_by_power_with_half_sign : (power place n : ℕ)
+    → scaled_by_power power (with_half_sign place n) ≡ with_half_sign place (n * power / 32767)
+scaled_by_power_with_half_sign power place n = go (ltb place 128) n
   where
-    go : (b : Bool) (n : ℕ) → scaled power (cond b (pos n) (neg_ℤ (pos n))) ≡ cond b (pos (n * power / 32767)) (neg_ℤ (pos (n * power / 32767)))
+    go : (b : Bool) (n : ℕ)
+        → scaled_by_power power (cond b (pos n) (neg_ℤ (pos n))) ≡ cond b (pos (n * power / 32767)) (neg_ℤ (pos (n * power / 32767)))
     go true n = grind (arith, ints)
     go false n = grind (arith, ints)

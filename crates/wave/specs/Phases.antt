@@ -15,9 +15,9 @@ lead TwoPhase = 64
 lead ThreePhase = 85
 
 -- a number times the power over 32,767, cut toward zero
-abbrev pub scaled : ℕ → ℤ → ℤ
-scaled power x = cond (int_lt x (pos 0)) (neg_ℤ (pos (unsigned_abs x * power / 32767))) (pos (unsigned_abs x * power / 32767))
+abbrev pub scaled_by_power : ℕ → ℤ → ℤ
+scaled_by_power power x = cond (int_lt x (pos 0)) (neg_ℤ (pos (unsigned_abs x * power / 32767))) (pos (unsigned_abs x * power / 32767))
 
 abbrev pub phases : MotorKind → ℕ → ℤ → ℤ × ℤ
 phases kind power position =
-    (scaled power (wave (angle position)), scaled power (wave ((angle position + lead kind) % 256)))
+    (scaled_by_power power (wave (angle position)), scaled_by_power power (wave ((angle position + lead kind) % 256)))

@@ -7,8 +7,8 @@ abbrev pub half : ℕ → ℕ
 half place = cond (nat_lt place 64) (slice_index quarter place) (slice_index quarter (128 - place))
 
 -- a size with the sign of the half that the place lies in
-abbrev pub along : ℕ → ℕ → ℤ
-along place size = cond (nat_lt place 128) (pos size) (neg_ℤ (pos size))
+abbrev pub with_half_sign : ℕ → ℕ → ℤ
+with_half_sign place size = cond (nat_lt place 128) (pos size) (neg_ℤ (pos size))
 
 unfoldable pub wave : ℕ → ℤ
-wave place = along place (half (place % 128))
+wave place = with_half_sign place (half (place % 128))

@@ -1,9 +1,9 @@
 ghost use Rattle.std.specs.Prelude.{◌≡◌, ◌*◌, ◌/◌, ◌≤◌, unsigned_abs};
 ghost use Rattle.wave.specs.Wave.{wave};
-ghost use Rattle.wave.specs.Phases.{angle, lead, scaled, phases};
+ghost use Rattle.wave.specs.Phases.{angle, lead, scaled_by_power, phases};
 
 use crate::quarter::half;
-use crate::wave::along;
+use crate::wave::with_half_sign;
 
 // The greatest value of the wave.
 const FULL_SCALE: u64 = 32_767;
@@ -18,7 +18,7 @@ pub enum MotorKind {
 }
 
 impl MotorKind {
-    // How many places of 256 phase B is ahead of phase A.
+    /// How many places of 256 phase B is ahead of phase A.
     pub fn lead(self) -> u8
         ensures { result ≡ lead self }
     {
@@ -29,7 +29,7 @@ impl MotorKind {
     }
 }
 
-// The place on the wave that a position stands at.
+/// The place on the wave that a position stands at.
 pub fn angle(position: i32) -> u8
     ensures { result ≡ angle position }
 {
@@ -48,15 +48,15 @@ fn share(power: u16, size: u16) -> u16
 }
 
 // What a winding is driven with at a place of the wave. The sign is given last, so that nothing signed is divided.
-#[tactic(auto, using(crate::proofs::Waves::half_bound, crate::proofs::Waves::along_size, crate::proofs::Waves::scaled_along), unfolding(crate::specs::Wave::wave))]
+#[tactic(auto, using(crate::proofs::Waves::half_bound, crate::proofs::Waves::with_half_sign_size, crate::proofs::Waves::scaled_by_power_with_half_sign), unfolding(crate::specs::Wave::wave))]
 fn phase(power: u16, place: u32) -> i32
-    ensures is { result ≡ scaled power (wave place) }
+    ensures is { result ≡ scaled_by_power power (wave place) }
     ensures bound { unsigned_abs result ≤ power }
 {
-    along(place, share(power, half(place % 128)))
+    with_half_sign(place, share(power, half(place % 128)))
 }
 
-// What the phases A and B of a motor are driven with at a position.
+/// What the phases A and B of a motor are driven with at a position.
 pub fn phases(kind: MotorKind, power: u16, position: i32) -> (i32, i32)
     ensures is { result ≡ phases kind power position }
     ensures bound { (unsigned_abs result.0 ≤ power) × (unsigned_abs result.1 ≤ power) }

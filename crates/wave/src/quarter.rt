@@ -1,5 +1,5 @@
 ghost use Rattle.std.specs.Prelude.{◌≡◌, ◌<◌};
-ghost use Rattle.wave.specs.Quarter.{quarter, Sine};
+ghost use Rattle.wave.specs.Quarter.{quarter, IsSine};
 ghost use Rattle.wave.specs.Wave.{half};
 
 // Half a wave: up the quarter and down again. The half is kept, since to fold a place into the quarter takes longer than to look it up.
@@ -16,10 +16,10 @@ const HALF: [u16; 128] = [
     5602, 4808, 4011, 3212, 2410, 1608, 804,
 ];
 
-// The quarter wave: the whole numbers nearest 32,767 × sin(k × 90° / 64), for k from 0 to 64.
+/// The quarter wave: the whole numbers nearest 32,767 × sin(k × 90° / 64), for k from 0 to 64.
 pub fn quarter() -> [u16; 65]
     ensures is { result ≡ quarter }
-    ensures sine { Sine 64 result }
+    ensures sine { IsSine 64 result }
 {
     *HALF.first_chunk().unwrap()
 }

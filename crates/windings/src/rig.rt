@@ -1,8 +1,8 @@
 ghost use Rattle.std.specs.Prelude.{◌≡◌, OnOk, pos};
 ghost use Rattle.stage.specs.Dac.{dac_pairs};
-ghost use Rattle.stage.specs.Pairs.{dark, pair_of};
+ghost use Rattle.stage.specs.Pairs.{zero_pairs, pair_of};
 ghost use Rattle.stage.specs.Pwm.{pwm_pairs};
-ghost use Rattle.windings.specs.Rows.{Driven, Measured, Spared, spoken};
+ghost use Rattle.windings.specs.Rows.{IsDriven, MeasuresAt, SparesGateTwo, dac_pair};
 
 use crate::row::{HEADING, Row};
 use crate::settings::Settings;
@@ -16,13 +16,13 @@ use wave::phases::phases;
 // The gate that a trial drives.
 const GATE: u8 = 1;
 
-// Wires that change places and negate: behind them a fitter sees the other way of connecting a motor.
+/// Wires that change places and negate: behind them a fitter sees the other way of connecting a motor.
 pub const CROSSED: Wire = Wire {
     exchanged: true,
     negated: true,
 };
 
-// A motor at a power, on a DAC stage and on a wired PWM stage.
+/// A motor at a power, on a DAC stage and on a wired PWM stage.
 #[derive(Drop)]
 pub struct Rig {
     settings: Settings,
@@ -32,16 +32,18 @@ pub struct Rig {
 
 // The words of the driven gate.
 fn words(dac: &Dac) -> (u16, u16)
-    ensures { spoken result ≡ pair_of (dac_pairs dac.now) 1 }
+    ensures { dac_pair result ≡ pair_of (dac_pairs dac.now) 1 }
 {
     (dac.word(0).unwrap(), dac.word(1).unwrap())
 }
 
 impl Rig {
-    // The PWM stage is wired alike for both gates, and nothing is shown yet.
+    /// The PWM stage is wired alike for both gates, and nothing is shown yet.
     pub fn new(settings: Settings, wire: Wire) -> Rig
-        ensures made { (result.settings ≡ settings) × (result.pwm.one ≡ wire) × (result.pwm.two ≡ wire) }
-        ensures dark { (dac_pairs result.dac ≡ dark) × (pwm_pairs result.pwm.below ≡ dark) }
+        ensures made { (result.settings ≡ settings) × (result.pwm.one ≡ wire) ×
+            (result.pwm.two ≡ wire) }
+        ensures dark { (dac_pairs result.dac ≡ zero_pairs) ×
+            (pwm_pairs result.pwm.below ≡ zero_pairs) }
     {
         let pwm = Wiring::new(Pwm::new(), wire, wire);
         Rig {
@@ -51,12 +53,13 @@ impl Rig {
         }
     }
 
-    // Steps the motor to a position, and measures what comes of it. Gate 2 is left alone.
+    /// Steps the motor to a position, and measures what comes of it. Gate 2 is left alone.
     pub fn step(&mut self, position: i32) -> Row
-        ensures measured { Measured self.old.settings self.old.pwm.one position result }
-        ensures driven { Driven self.old.settings position self.new.dac self.new.pwm }
-        ensures kept { (self.new.settings ≡ self.old.settings) × (self.new.pwm.one ≡ self.old.pwm.one) × (self.new.pwm.two ≡ self.old.pwm.two) }
-        ensures spared { Spared self.old.dac self.new.dac self.old.pwm self.new.pwm }
+        ensures measured { MeasuresAt self.old.settings self.old.pwm.one position result }
+        ensures driven { IsDriven self.old.settings position self.new.dac self.new.pwm }
+        ensures kept { (self.new.settings ≡ self.old.settings) ×
+            (self.new.pwm.one ≡ self.old.pwm.one) × (self.new.pwm.two ≡ self.old.pwm.two) }
+        ensures spared { SparesGateTwo self.old.dac self.new.dac self.old.pwm self.new.pwm }
     {
         let (a, b) = phases(self.settings.kind, self.settings.power, position);
         self.dac.show(GATE, a, b);
@@ -71,11 +74,13 @@ impl Rig {
         }
     }
 
-    // Prints a line for each position of an electrical turn, and leaves the motor at the last.
+    /// Prints a line for each position of an electrical turn, and leaves the motor at the last.
     pub fn show(&mut self, rt: &impl Print) -> io::Result<()>
-        ensures driven { OnOk result (Driven self.new.settings (pos 255) self.new.dac self.new.pwm) }
-        ensures kept { (self.new.settings ≡ self.old.settings) × (self.new.pwm.one ≡ self.old.pwm.one) × (self.new.pwm.two ≡ self.old.pwm.two) }
-        ensures spared { Spared self.old.dac self.new.dac self.old.pwm self.new.pwm }
+        ensures driven { OnOk result
+            (IsDriven self.new.settings (pos 255) self.new.dac self.new.pwm) }
+        ensures kept { (self.new.settings ≡ self.old.settings) ×
+            (self.new.pwm.one ≡ self.old.pwm.one) × (self.new.pwm.two ≡ self.old.pwm.two) }
+        ensures spared { SparesGateTwo self.old.dac self.new.dac self.old.pwm self.new.pwm }
     {
         rt.println(HEADING)?;
         for position in 0..256 {

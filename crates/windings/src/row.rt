@@ -4,7 +4,7 @@ ghost use Rattle.windings.specs.Rows.{sign_of};
 use stage::pulse::Pulse;
 use std::fmt;
 
-// One line of a trial.
+/// One line of a trial.
 #[derive(Clone, Copy, Debug, PartialEq, Eq)]
 pub struct Row {
     pub position: i32,

@@ -1,17 +1,17 @@
 ghost use Rattle.std.specs.Prelude.{map, string_bytes};
-ghost use Rattle.windings.specs.Settings.{Names, Writes, Read, Written};
+ghost use Rattle.windings.specs.Settings.{NamesKind, WritesPower, ReadsSettingsWords, ReadsSettings};
 
 use thiserror::Error;
 use wave::phases::MotorKind;
 
-// The motor of a trial, and the power that it is driven with.
+/// The motor of a trial, and the power that it is driven with.
 #[derive(Clone, Copy, Debug, PartialEq, Eq)]
 pub struct Settings {
     pub kind: MotorKind,
     pub power: u16,
 }
 
-// What is wrong with the arguments.
+/// What is wrong with the arguments.
 #[derive(Clone, Copy, Debug, PartialEq, Eq, Error)]
 pub enum Fault {
     #[error("the first argument is the kind of motor: two-phase or three-phase")]
@@ -22,9 +22,9 @@ pub enum Fault {
     Extra,
 }
 
-// The kind of motor that a word names. Its type stands in crate wave, which knows no words, so it has no `FromStr`.
+/// The kind of motor that a word names. Its type stands in crate wave, which knows no words, so it has no `FromStr`.
 pub fn kind_from(word: &str) -> Option<MotorKind>
-    ensures { Names word.now result }
+    ensures { NamesKind word.now result }
 {
     match word {
         "two-phase" => Some(MotorKind::TwoPhase),
@@ -33,16 +33,16 @@ pub fn kind_from(word: &str) -> Option<MotorKind>
     }
 }
 
-// The power that a word writes, from 0 to 32,767.
+/// The power that a word writes, from 0 to 32,767.
 pub fn power_from(word: &str) -> Option<u16>
-    ensures { Writes word.now result }
+    ensures { WritesPower word.now result }
 {
     word.parse().ok().filter(|power| *power <= 32767)
 }
 
 impl Settings {
     pub fn read(kind: &str, power: &str) -> Result<Settings, Fault>
-        ensures { Read kind.now power.now result }
+        ensures { ReadsSettingsWords kind.now power.now result }
     {
         Ok(Settings {
             kind: kind_from(kind).ok_or(Fault::Kind)?,
@@ -60,7 +60,7 @@ const POWER: &str = "16384";
 impl TryFrom<&[String]> for Settings {
     type Error = Fault;
 
-    ghost try_from_gives = { λ words r. Written (map string_bytes words.now) r };
+    ghost try_from_gives = { λ words r. ReadsSettings (map string_bytes words.now) r };
 
     fn try_from(words: &[String]) -> Result<Settings, Fault> {
         match words {

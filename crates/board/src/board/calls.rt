@@ -1,7 +1,7 @@
 ghost use Rattle.std.specs.Prelude.{◌≡◌, true, false, [], Ok, Err};
-ghost use Rattle.board.specs.Own.{done};
-ghost use Rattle.board.specs.Acts.{heard_done, heard_word, act_command, act_write, act_read, act_cycle, act_reset, act_take, act_close};
-ghost use Rattle.board.specs.Runs.{Came, Did, heard_slip, heard_back};
+ghost use Rattle.board.specs.Own.{answer_done};
+ghost use Rattle.board.specs.Acts.{answer_of_unit, answer_of_word, act_command, act_write, act_read, act_cycle, act_reset, act_take, act_close};
+ghost use Rattle.board.specs.Runs.{ReachedBy, Performs, answer_of_slip, answer_of_close};
 
 use crate::board::Board;
 use crate::port::Port;
@@ -14,9 +14,9 @@ use stage::Stage;
 
 impl<S: Stage + Drop> Board<S> {
     /// A new board over a stage, as after a reset: both gates as new, gate 1 current, the port idle, 0, 0 shown for both, no slip out.
-    #[tactic(auto, unfolding(crate::specs::Acts::Holds))]
+    #[tactic(auto, unfolding(crate::specs::Acts::HasSoundTable))]
     pub fn new(stage: S) -> Board<S>
-        ensures { Came S.Stage [] result }
+        ensures { ReachedBy S.Stage [] result }
     {
         let mut stage = stage;
         stage.show(1, 0, 0);
@@ -33,9 +33,9 @@ impl<S: Stage + Drop> Board<S> {
     /// Gives the board a command by its code; `docs/BOARD.md` lists the 37 of them. One without words runs, one that takes words opens its
     /// packet, and one that gives words fixes them now. Refused, and nothing changes: `PacketOpen` while a packet is open; else `Unknown`
     /// if no command has this code; else `NoCall` for SET_I if no gate calls.
-    #[tactic(auto, unfolding(crate::specs::Acts::Holds))]
+    #[tactic(auto, unfolding(crate::specs::Acts::HasSoundTable))]
     pub fn command(&mut self, code: u8) -> Result<(), Refusal>
-        ensures { Did S.Stage (act_command code) (heard_done result) self.old self.new }
+        ensures { Performs S.Stage (act_command code) (answer_of_unit result) self.old self.new }
     {
         self.table.command(code)
     }
@@ -43,60 +43,61 @@ impl<S: Stage + Drop> Board<S> {
     /// Writes a word of the packet that is open, the high word of two first; the last one runs the packet. Refused: `NotTaking` if the port
     /// takes no words, and nothing changes; `OutOfRange` if the value is outside its range, which closes the packet and sets the command
     /// error bit of the gate that the packet belongs to.
-    #[tactic(auto, unfolding(crate::specs::Acts::Holds))]
+    #[tactic(auto, unfolding(crate::specs::Acts::HasSoundTable))]
     pub fn write(&mut self, word: u16) -> Result<(), Refusal>
-        ensures { Did S.Stage (act_write word) (heard_done result) self.old self.new }
+        ensures { Performs S.Stage (act_write word) (answer_of_unit result) self.old self.new }
     {
         self.table.write(word)
     }
 
-    /// Reads the next word that a command fixed, the high word of two first; the last one closes the packet. Refused: `NotGiving` if no word
-    /// waits, and nothing changes.
-    #[tactic(auto, unfolding(crate::specs::Acts::Holds))]
+    /// Reads the next word that a command fixed, the high word of two first; the last one closes the packet. Refused: `NotGiving` if no
+    /// word waits, and nothing changes.
+    #[tactic(auto, unfolding(crate::specs::Acts::HasSoundTable))]
     pub fn read(&mut self) -> Result<u16, Refusal>
-        ensures { Did S.Stage act_read (heard_word result) self.old self.new }
+        ensures { Performs S.Stage act_read (answer_of_word result) self.old self.new }
     {
         self.table.read()
     }
 
-    /// One cycle of both gates, of what the encoders (in counts) and the switches bring: `left` to gate 1, `right` to gate 2. The phases
+    /// One cycle of both gates, of what the encoders (in counts) and the switches bring: `one` to gate 1, `two` to gate 2. The phases
     /// of both are shown. It has no refusal, and an open packet stays open.
-    #[tactic(auto, unfolding(crate::specs::Acts::Holds))]
-    pub fn cycle(&mut self, left: Inputs, right: Inputs)
-        ensures { Did S.Stage (act_cycle left right) done self.old self.new }
+    #[tactic(auto, unfolding(crate::specs::Acts::HasSoundTable))]
+    pub fn cycle(&mut self, one: Inputs, two: Inputs)
+        ensures { Performs S.Stage (act_cycle one two) answer_done self.old self.new }
     {
-        let (one, two) = self.table.cycle(left, right);
-        self.stage.show(1, one.0, one.1);
-        self.stage.show(2, two.0, two.1);
+        let (phases_one, phases_two) = self.table.cycle(one, two);
+        self.stage.show(1, phases_one.0, phases_one.1);
+        self.stage.show(2, phases_two.0, phases_two.1);
     }
 
     /// The reset pin: closes any packet, makes gate 1 current, shows 0, 0 for both gates, and gives every field of both its reset value but
     /// the slip marks. It has no refusal.
-    #[tactic(auto, unfolding(crate::specs::Acts::Holds))]
+    #[tactic(auto, unfolding(crate::specs::Acts::HasSoundTable))]
     pub fn reset(&mut self)
-        ensures { Did S.Stage act_reset done self.old self.new }
+        ensures { Performs S.Stage act_reset answer_done self.old self.new }
     {
         self.table.reset();
         self.stage.show(1, 0, 0);
         self.stage.show(2, 0, 0);
     }
 
-    /// Hands out a service slip for the lowest-numbered gate that calls and has no slip out. Refused: `NoCall` if there is none, and nothing
-    /// changes.
-    #[tactic(auto, unfolding(crate::specs::Acts::Holds))]
+    /// Hands out a service slip for the lowest-numbered gate that calls and has no slip out. Refused: `NoCall` if there is none, and
+    /// nothing changes.
+    #[tactic(auto, unfolding(crate::specs::Acts::HasSoundTable))]
     pub fn take(&mut self) -> Result<Slip, Refusal>
-        ensures did { Did S.Stage act_take (heard_slip result) self.old self.new }
+        ensures did { Performs S.Stage act_take (answer_of_slip result) self.old self.new }
         ensures unspent { elim result [ Ok s ↦ s.spent ≡ false | Err e ↦ Unit {0} ] }
     {
         let gate = self.table.take()?;
         Ok(Slip { gate, spent: false })
     }
 
-    /// Takes a slip back, and clears the event bits of its gate whose places hold 0 in the word, as RST_STATUS does. Refused: `NoSlip` if that
-    /// gate has no slip out at this board; nothing changes, and the slip comes back unspent.
-    #[tactic(auto, unfolding(crate::specs::Acts::Holds))]
+    /// Takes a slip back, and clears the event bits of its gate whose places hold 0 in the word, as RST_STATUS does. Refused: `NoSlip` if
+    /// that gate has no slip out at this board; nothing changes, and the slip comes back unspent.
+    #[tactic(auto, unfolding(crate::specs::Acts::HasSoundTable))]
     pub fn close(&mut self, mut slip: Slip, word: u16) -> Result<(), (Refusal, Slip)>
-        ensures did { Did S.Stage (act_close slip.gate word) (heard_back result) self.old self.new }
+        ensures did { Performs S.Stage (act_close slip.gate word) (answer_of_close result) self.old
+            self.new }
         ensures back { elim result [ Ok _ ↦ Unit {0} | Err p ↦ p.1 ≡ slip ] }
     {
         match self.table.close(slip.gate, word) {

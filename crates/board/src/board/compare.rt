@@ -1,8 +1,8 @@
 ghost use Rattle.std.specs.Prelude.{◌≡◌, ◌-◌, ◌<◌, true, false, ◌-ℤ◌, Decides, MatchOption, unsigned_abs};
 ghost use Rattle.stage.specs.Pairs.{is_gate};
 ghost use Rattle.board.specs.Acts.{state_of, gate_of};
-ghost use Rattle.board.specs.Isolation.{Attributed, Isolated, Booked};
-ghost use Rattle.board.specs.Compared.{Compared};
+ghost use Rattle.board.specs.Isolation.{EachEntryBelongs, IsIsolated, FollowsBook};
+ghost use Rattle.board.specs.Compared.{IsComparison};
 
 use crate::board::Board;
 use crate::table::Table;
@@ -24,40 +24,38 @@ fn apart(a: (i32, i32), b: (i32, i32)) -> (u32, u32)
     (a.0.abs_diff(b.0), a.1.abs_diff(b.1))
 }
 
-fn same_record(left: &Table, right: &Table, gate: u8) -> bool
+fn same_record(a: &Table, b: &Table, gate: u8) -> bool
     requires { gate < 2 }
-    ensures { Decides result (gate_of (state_of left.now) gate ≡ gate_of (state_of right.now) gate) }
+    ensures { Decides result (gate_of (state_of a.now) gate ≡ gate_of (state_of b.now) gate) }
 {
-    left.gates[gate as usize].same(&right.gates[gate as usize])
+    a.gates[gate as usize].same(&b.gates[gate as usize])
 }
 
-fn compared<S: Stage + Drop, R: Stage + Drop>(
-    left: &Board<S>,
-    right: &Board<R>,
-    gate: u8,
-) -> Comparison
+fn compared<S: Stage + Drop, R: Stage + Drop>(a: &Board<S>, b: &Board<R>, gate: u8) -> Comparison
     requires { is_gate gate ≡ true }
-    ensures { Compared S.Stage left.now R.Stage right.now (gate - 1) result }
+    ensures { IsComparison S.Stage a.now R.Stage b.now (gate - 1) result }
 {
-    let same = same_record(&left.table, &right.table, gate - 1);
+    let same = same_record(&a.table, &b.table, gate - 1);
     Comparison {
         same,
-        apart: apart(left.pair(gate), right.pair(gate)),
+        apart: apart(a.pair(gate), b.pair(gate)),
     }
 }
 
 /// Compares gate 1 or 2 on two boards, over any makes of stage; `None` for another gate. Its contract carries the isolation law
 /// (`docs/ISOLATION.md`).
 pub fn compare<S: Stage + Drop, R: Stage + Drop>(
-    left: &Board<S>,
-    right: &Board<R>,
+    a: &Board<S>,
+    b: &Board<R>,
     gate: u8,
 ) -> Option<Comparison>
-    ensures is { MatchOption result (is_gate gate ≡ false) (λ c. (is_gate gate ≡ true) × Compared S.Stage left.now R.Stage right.now (gate - 1) c) }
-    ensures isolated { Isolated S.Stage left.now R.Stage right.now }
-    ensures booked { Booked S.Stage left.now }
-    ensures other { Booked R.Stage right.now }
-    ensures attributed { Attributed }
+    ensures is { MatchOption result
+        (is_gate gate ≡ false)
+        (λ c. (is_gate gate ≡ true) × IsComparison S.Stage a.now R.Stage b.now (gate - 1) c) }
+    ensures isolated { IsIsolated S.Stage a.now R.Stage b.now }
+    ensures booked { FollowsBook S.Stage a.now }
+    ensures other { FollowsBook R.Stage b.now }
+    ensures attributed { EachEntryBelongs }
 {
-    matches!(gate, 1 | 2).then(|| compared(left, right, gate))
+    matches!(gate, 1 | 2).then(|| compared(a, b, gate))
 }

@@ -1,5 +1,5 @@
 ghost use Rattle.std.specs.Prelude.{◌≡◌, ◌-◌, true, false, IfSome, MatchOption};
-ghost use Rattle.gate.specs.Sound.{Sound};
+ghost use Rattle.gate.specs.Sound.{IsSound};
 ghost use Rattle.stage.specs.Pairs.{is_gate, pair_of};
 ghost use Rattle.board.specs.Acts.{state_of, gate_of};
 
@@ -23,10 +23,12 @@ impl<S: Stage + Drop> Board<S> {
     }
 
     /// The record of gate 1 or 2 as it stands, in its ranges, so that every question of a gate can be put to it; `None` for another gate.
-    #[tactic(auto, unfolding(crate::specs::Acts::Holds))]
+    #[tactic(auto, unfolding(crate::specs::Acts::HasSoundTable))]
     pub fn record(&self, gate: u8) -> Option<Gate>
-        ensures sound { IfSome result Sound }
-        ensures is { MatchOption result (is_gate gate ≡ false) (λ g. (is_gate gate ≡ true) × (g ≡ gate_of (state_of self.now.table) (gate - 1))) }
+        ensures sound { IfSome result IsSound }
+        ensures is { MatchOption result
+            (is_gate gate ≡ false)
+            (λ g. (is_gate gate ≡ true) × (g ≡ gate_of (state_of self.now.table) (gate - 1))) }
     {
         match gate {
             1 => Some(self.table.gates[0]),

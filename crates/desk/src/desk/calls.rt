@@ -1,8 +1,8 @@
 ghost use Rattle.std.specs.Prelude.{◌≡◌, []};
-ghost use Rattle.board.specs.Own.{done};
-ghost use Rattle.board.specs.Acts.{heard_done, heard_word, act_command, act_write, act_read, act_cycle, act_reset};
-ghost use Rattle.board.specs.Runs.{Came, Did};
-ghost use Rattle.desk.specs.Runs.{Ran};
+ghost use Rattle.board.specs.Own.{answer_done};
+ghost use Rattle.board.specs.Acts.{answer_of_unit, answer_of_word, act_command, act_write, act_read, act_cycle, act_reset};
+ghost use Rattle.board.specs.Runs.{ReachedBy, Performs};
+ghost use Rattle.desk.specs.Runs.{RunsCycles};
 
 use crate::desk::Desk;
 use board::board::Board;
@@ -11,9 +11,9 @@ use gate::inputs::Inputs;
 use stage::Stage;
 
 impl<S: Stage + Drop> Desk<S> {
-    // A new board, and no slip.
+    /// A new board, and no slip.
     pub fn new(stage: S) -> Desk<S>
-        ensures { Came S.Stage [] result.board }
+        ensures { ReachedBy S.Stage [] result.board }
     {
         Desk {
             board: Board::new(stage),
@@ -22,7 +22,7 @@ impl<S: Stage + Drop> Desk<S> {
         }
     }
 
-    // The board, to be asked.
+    /// The board, to be asked.
     pub fn board(&self) -> &Board<S>
         ensures { result.now ≡ self.now.board }
     {
@@ -30,32 +30,34 @@ impl<S: Stage + Drop> Desk<S> {
     }
 
     pub fn command(&mut self, code: u8) -> Result<(), Refusal>
-        ensures { Did S.Stage (act_command code) (heard_done result) self.old.board self.new.board }
+        ensures { Performs S.Stage (act_command code) (answer_of_unit result) self.old.board
+            self.new.board }
     {
         self.board.command(code)
     }
 
     pub fn write(&mut self, word: u16) -> Result<(), Refusal>
-        ensures { Did S.Stage (act_write word) (heard_done result) self.old.board self.new.board }
+        ensures { Performs S.Stage (act_write word) (answer_of_unit result) self.old.board
+            self.new.board }
     {
         self.board.write(word)
     }
 
     pub fn read(&mut self) -> Result<u16, Refusal>
-        ensures { Did S.Stage act_read (heard_word result) self.old.board self.new.board }
+        ensures { Performs S.Stage act_read (answer_of_word result) self.old.board self.new.board }
     {
         self.board.read()
     }
 
-    pub fn cycle(&mut self, left: Inputs, right: Inputs)
-        ensures { Did S.Stage (act_cycle left right) done self.old.board self.new.board }
+    pub fn cycle(&mut self, one: Inputs, two: Inputs)
+        ensures { Performs S.Stage (act_cycle one two) answer_done self.old.board self.new.board }
     {
-        self.board.cycle(left, right);
+        self.board.cycle(one, two);
     }
 
-    // So many cycles in which no gate's encoder counts and no switch is active.
+    /// So many cycles in which no gate's encoder counts and no switch is active.
     pub fn run(&mut self, cycles: u32)
-        ensures { Ran S.Stage cycles self.old.board self.new.board }
+        ensures { RunsCycles S.Stage cycles self.old.board self.new.board }
     {
         for _turn in 0..cycles {
             self.cycle(Inputs::STILL, Inputs::STILL);
@@ -63,7 +65,7 @@ impl<S: Stage + Drop> Desk<S> {
     }
 
     pub fn reset(&mut self)
-        ensures { Did S.Stage act_reset done self.old.board self.new.board }
+        ensures { Performs S.Stage act_reset answer_done self.old.board self.new.board }
     {
         self.board.reset();
     }

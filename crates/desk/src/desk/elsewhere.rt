@@ -1,4 +1,4 @@
-ghost use Rattle.desk.specs.Closes.{Moved, Elsewhere};
+ghost use Rattle.desk.specs.Closes.{ClosesAt, ClosesElsewhere};
 
 use crate::desk::Desk;
 use crate::desk::slips::put;
@@ -15,7 +15,8 @@ fn close_at<R: Stage + Drop>(
     theirs: &mut Option<Slip>,
     word: u16,
 ) -> Option<Result<(), Refusal>>
-    ensures { Moved R.Stage word result board.old board.new mine.old mine.new theirs.old theirs.new }
+    ensures { ClosesAt R.Stage word result
+        board.old board.new mine.old mine.new theirs.old theirs.new }
 {
     let slip = mine.take()?;
     match board.close(slip, word) {
@@ -30,15 +31,16 @@ fn close_at<R: Stage + Drop>(
     }
 }
 
-// Closes the slip that `own` keeps for a gate, 1 or 2, at the board of `other`; `None` if it keeps no such slip. A slip that is refused
-// is kept again. Once one is accepted, `own` keeps the slip that `other` kept for that gate.
+/// Closes the slip that `own` keeps for a gate, 1 or 2, at the board of `other`; `None` if it keeps no such slip. A slip that is refused
+/// is kept again. Once one is accepted, `own` keeps the slip that `other` kept for that gate.
 pub fn close_elsewhere<S: Stage + Drop, R: Stage + Drop>(
     own: &mut Desk<S>,
     other: &mut Desk<R>,
     gate: u8,
     word: u16,
 ) -> Option<Result<(), Refusal>>
-    ensures { Elsewhere S.Stage R.Stage gate word result own.old.board own.new.board other.old.board other.new.board }
+    ensures { ClosesElsewhere S.Stage R.Stage gate word result
+        own.old.board own.new.board other.old.board other.new.board }
 {
     match gate {
         1 => close_at(&mut other.board, &mut own.first, &mut other.first, word),

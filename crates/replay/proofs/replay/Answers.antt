@@ -1,6 +1,6 @@
 use Rattle.std.proofs.Common.{length, subst, arith, rules}
 use Rattle.std.proofs.Math.Nat.{sub-zero}
-use Rattle.replay.specs.Replays.{Ended}
+use Rattle.replay.specs.Replays.{EndsList}
 use Rattle.replay.proofs.replay.Goals as goal
 
 pub returns : goal.returns
@@ -19,7 +19,8 @@ returns g c =
         last_a = last.a.board;
         last_b = last.b.board;
         steps = k.0;
-        ended = subst (λ n. Ended g.S.Stage g.R.Stage c.args.list.now boards.a.board boards.b.board c.play-played.result k.0 last.a.board last.b.board k.1 n) (sub-zero (length c.args.room.now)) k.2;
+        ended =
+            subst (λ n. EndsList g.S.Stage g.R.Stage c.args.list.now boards.a.board boards.b.board c.play-played.result k.0 last.a.board last.b.board k.1 n) (sub-zero (length c.args.room.now)) k.2;
       },
       search rules,
       omega (arith, k.3.len),

@@ -3,12 +3,12 @@ use denote.Enum.Declared.{tag_of}
 use Rattle.replay.specs.contracts.fault.Fault.{the_type}
 use Rattle.replay.specs.declared.fault.Fault.{Fault}
 use Rattle.replay.specs.declared.fault.Fault.TheVariants.{Unknown, CutShort, Operand, NoRoom}
-use Rattle.replay.specs.Faults.{number}
+use Rattle.replay.specs.Faults.{fault_number}
 use Rattle.replay.specs.Returns.{stage_a, stage_b}
 use Rattle.replay.proofs.Frame.{framed}
 use Rattle.replay.proofs.two_gate_replay.Goals as goal
 
-numbered : (f : Fault) → tag_of the_type f + 1 ≡ number f
+numbered : (f : Fault) → tag_of the_type f + 1 ≡ fault_number f
 numbered Unknown = refl
 numbered CutShort = refl
 numbered Operand = refl

@@ -1,6 +1,7 @@
 use Rattle.std.proofs.Common.{◌≡◌}
-use Rattle.host.specs.Works.{Run, bench_of}
+use Rattle.host.specs.Works.{RunsFor, bench_of}
 use Rattle.host.proofs.lots.run.Given as goal
 
 abbrev pub invariant-loop-cycle : goal.invariant-loop-cycle
-invariant-loop-cycle g l = Run g.S.Stage l._cycle (bench_of g.S.Stage l.fn.desk.board l.fn.left l.fn.right) (bench_of g.S.Stage l.desk.board l.left l.right)
+invariant-loop-cycle g l =
+    RunsFor g.S.Stage l._cycle (bench_of g.S.Stage l.fn.desk.board l.fn.left l.fn.right) (bench_of g.S.Stage l.desk.board l.left l.right)

@@ -1,6 +1,6 @@
 use Rattle.std.proofs.Common.{◌≡◌, ℕ, List, length, refl, ◌∙◌, ap, sym, subst, arith}
 use Rattle.std.specs.Option.{option_copied}
-use Rattle.host.specs.Works.{Notes, IfSomething, Readied, Turns, bench_of, notes_of}
+use Rattle.host.specs.Works.{Notes, IfSomething, MakesReady, WorksInTurn, bench_of, notes_of}
 use Rattle.host.specs.declared.lot.Lot.{Lot}
 use Rattle.host.proofs.Works.{turns_more, if_lots, if_no_lots}
 use Rattle.host.proofs.lots.work_lots.Goals as goal
@@ -21,7 +21,7 @@ returns g c =
     let both = bench_of m c.if-is_some.desk.board c.prepare.new.self c.if-is_some.two in
     let after = bench_of m c.loop-index.desk.board c.loop-index.one c.loop-index.two in
     let lots = option_copied c.args.right in
-    let P = Readied m 12000 0 in
+    let P = MakesReady m 12000 0 in
     let right : IfSomething m (λ (rights : List Lot). P) lots ready.right ready.board both.right both.board = elim c.if-is_some.branch [
       | then-is_some+in_ok-prepare-2 w ↦
           if_lots m P c.args.right ready.right _ both.right ready.board _ both.board (sym c.is_some.ensures ∙ w.if-is_some.true) (ap notes_of w.two-is) (ap (λ desk. desk.board) w.desk-is) w.in_ok-prepare-2.ensures
@@ -31,7 +31,8 @@ returns g c =
     record {
       ready = ready;
       both = both;
-      left_ready = (subst (λ (x : Notes). Readied m 20000 1 x c.args.desk.now.board ready.left ready.board) c.new-one.ensures c.in_ok-prepare.ensures, c.new-two.ensures);
+      left_ready =
+          (subst (λ (x : Notes). MakesReady m 20000 1 x c.args.desk.now.board ready.left ready.board) c.new-one.ensures c.in_ok-prepare.ensures, c.new-two.ensures);
       right_ready = (right, refl);
-      turns = subst (λ (k : ℕ). Turns m c.args.left.now (option_copied c.args.right) k both after) all c.loop-index.invariant;
+      turns = subst (λ (k : ℕ). WorksInTurn m c.args.left.now (option_copied c.args.right) k both after) all c.loop-index.invariant;
     }

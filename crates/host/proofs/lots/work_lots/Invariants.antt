@@ -1,8 +1,8 @@
 use Rattle.std.proofs.Common.{◌≡◌}
 use Rattle.std.specs.Option.{option_copied}
-use Rattle.host.specs.Works.{Turns, bench_of}
+use Rattle.host.specs.Works.{WorksInTurn, bench_of}
 use Rattle.host.proofs.lots.work_lots.Given as goal
 
 abbrev pub invariant-loop-index : goal.invariant-loop-index
 invariant-loop-index g l =
-    Turns g.S.Stage l.left (option_copied l.right) l.index (bench_of g.S.Stage l.initial.desk.board l.initial.one l.initial.two) (bench_of g.S.Stage l.desk.board l.one l.two)
+    WorksInTurn g.S.Stage l.left (option_copied l.right) l.index (bench_of g.S.Stage l.initial.desk.board l.initial.one l.initial.two) (bench_of g.S.Stage l.desk.board l.one l.two)

@@ -4,7 +4,7 @@ use Rattle.std.specs.Str.Lines.{lines}
 use Rattle.std.specs.Str.Iter.{lines_rest}
 use Rattle.std.proofs.lemmas.Iterator.Consumers.{YieldsList-end, YieldsList-from_enumerate}
 use Rattle.std.proofs.lemmas.Iterator.Splits.{YieldsList-from_lines}
-use Rattle.host.specs.Scripts.{ScriptPlayed}
+use Rattle.host.specs.Scripts.{PlaysScript}
 use Rattle.host.proofs.Scripts.{script_next, texts_of}
 use Rattle.host.proofs.session.play_script.Goals as goal
 
@@ -33,4 +33,4 @@ returns g c =
     let count : s.count ≡ 0 = ap (λ it. it.count) c.into_iter-index-iterator.ensures.into_iter_gives ∙ c.enumerate-index-items.ensures.count in
     let given = YieldsList-from_lines {s = s.iter} c.args.script.now (ap lines_rest first ∙ c.lines.ensures.rest) in
     let end = YieldsList-end (YieldsList-from_enumerate {s = s} given count) c.loop-index.yielded _ c.loop-index.yielded_by _ _ c.in-None.is c.next.ensures.steps in
-    subst (λ (texts : List (List ℕ)). ScriptPlayed g.S.Stage g.R.Stage texts c.loop-index.faults c.args.boards.now c.loop-index.boards) (texts_of 0 c.loop-index.yielded (lines c.args.script.now) end.0) c.loop-index.invariant.1
+    subst (λ (texts : List (List ℕ)). PlaysScript g.S.Stage g.R.Stage texts c.loop-index.faults c.args.boards.now c.loop-index.boards) (texts_of 0 c.loop-index.yielded (lines c.args.script.now) end.0) c.loop-index.invariant.1

@@ -1,7 +1,7 @@
 use Rattle.std.proofs.Common.{◌≤◌, length, map}
-use Rattle.host.specs.Scripts.{ScriptPlayed}
+use Rattle.host.specs.Scripts.{PlaysScript}
 use Rattle.host.proofs.session.play_script.Given as goal
 
 abbrev pub invariant-loop-index : goal.invariant-loop-index
 invariant-loop-index g l =
-    (l.faults ≤ length l.yielded) × ScriptPlayed g.S.Stage g.R.Stage (map (λ item. item.1.now) l.yielded) l.faults l.initial.boards l.boards
+    (l.faults ≤ length l.yielded) × PlaysScript g.S.Stage g.R.Stage (map (λ item. item.1.now) l.yielded) l.faults l.initial.boards l.boards

@@ -1,11 +1,11 @@
 use Rattle.std.proofs.Common.{◌≡◌, ℕ, ◌*◌, ◌%◌, ℤ, pos, ◌+ℤ◌, nat_abs, ap, ◌∙◌, mod-lt, w64, to_z, of_z, arith}
 use Rattle.std.proofs.lemmas.Int.{ints}
-use Rattle.motion.specs.Course.{wrap}
+use Rattle.motion.specs.Course.{wrapped}
 use Rattle.motion.proofs.Turns.{rem_bits}
 use Rattle.motion.proofs.course.wrapped.Goals as goal
 
 pub returns-clause-is : goal.returns-clause-is
-unfolding wrap
+unfolding wrapped
 returns-clause-is c =
     let z : ℤ = c.args.z +ℤ pos (nat_abs c.args.half) in
     let turn : ℕ = 2 * nat_abs c.args.half in

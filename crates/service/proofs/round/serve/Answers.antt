@@ -1,23 +1,24 @@
 use Rattle.std.proofs.Common.{◌≡◌, true, Ok, Err, Result, is_ok, refl}
 use Rattle.board.specs.declared.refusal.Refusal.{Refusal}
 use Rattle.board.specs.declared.slip.Slip.{Slip}
-use Rattle.board.specs.Own.{Answer, refused}
+use Rattle.board.specs.Own.{Answer, answer_refused}
 use Rattle.board.specs.Acts.{state_of}
-use Rattle.board.specs.Runs.{heard_back}
+use Rattle.board.specs.Runs.{answer_of_close}
 use Rattle.board.proofs.Slips.{closes}
 use Rattle.service.proofs.Hands.{missed, had_turn}
 use Rattle.service.proofs.round.serve.Goals as goal
 
 -- a close that is not refused is accepted
-accepted : (r : Result (Unit {0}) (Refusal × Slip)) (x : Answer) → heard_back r ≡ x → ((e : Refusal) → refused e ≡ x → ⊥) → is_ok r ≡ true
+accepted : (r : Result (Unit {0}) (Refusal × Slip)) (x : Answer) → answer_of_close r ≡ x → ((e : Refusal) → answer_refused e ≡ x → ⊥)
+    → is_ok r ≡ true
 accepted (Ok u) x h kept = refl
 accepted (Err p) x h kept = absurd (kept p.0 h)
 
 pub unwrap-requires : goal.unwrap-requires
 unwrap-requires g c =
-    accepted c.close.result _ c.close.ensures.did.says
+    accepted c.close.result _ c.close.ensures.did.answers
     (λ e. closes (state_of c.args.board.now.table) (state_of c.take.new.self.table) c.in-Ok.slip.gate _ e
-    c.in-Ok.slip.known c.in-Ok.ensures.did.says c.take.ensures.did.state)
+    c.in-Ok.slip.known c.in-Ok.ensures.did.answers c.take.ensures.did.state)
 
 pub returns-in_default : goal.returns-in_default
 returns-in_default g c = missed g.S.Stage c.args.board.now c.take.new.self c.in_default.field-0 c.in_default.ensures.did

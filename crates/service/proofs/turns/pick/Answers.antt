@@ -2,7 +2,7 @@ use Rattle.std.proofs.Common.{is_some, Option, sym, refl, ap, subst}
 use Rattle.board.specs.declared.slip.Slip.{Slip}
 use Rattle.board.specs.Acts.{state_of}
 use Rattle.board.proofs.Slips.{taken_none, taken_out}
-use Rattle.service.specs.Turns.{InHand, Picked}
+use Rattle.service.specs.Turns.{IsInHand, Picks}
 use Rattle.service.proofs.turns.pick.Goals as goal
 
 pub returns : goal.returns
@@ -11,7 +11,7 @@ returns g c =
     let k = c.in-Ok.slip in
     record {
       held = refl;
-      out = taken_out s (state_of c.take.new.self.table) k.gate k.known c.in-Ok.ensures.did.says c.take.ensures.did.state;
+      out = taken_out s (state_of c.take.new.self.table) k.gate k.known c.in-Ok.ensures.did.answers c.take.ensures.did.state;
       picked = c.in-Ok.ensures.did;
       none = λ no. cc;
     }
@@ -20,11 +20,11 @@ pub returns-in_default : goal.returns-in_default
 returns-in_default g c =
     let s = state_of c.args.board.now.table in
     let e = sym c.requires in
-    let held : Option Slip → Type 0 = InHand c.take.new.self in
-    let picked : Option Slip → Type 0 = λ o. Picked g.S.Stage o c.args.board.now c.take.new.self in
+    let held : Option Slip → Type 0 = IsInHand c.take.new.self in
+    let picked : Option Slip → Type 0 = λ o. Picks g.S.Stage o c.args.board.now c.take.new.self in
     record {
       held = ap is_some e;
       out = subst held e tt;
       picked = subst picked e (c.in_default.field-0, c.in_default.ensures.did);
-      none = λ no. taken_none s c.in_default.field-0 c.in_default.ensures.did.says;
+      none = λ no. taken_none s c.in_default.field-0 c.in_default.ensures.did.answers;
     }

@@ -1,7 +1,7 @@
 use Rattle.std.proofs.Common.{[], ◌∷◌, sym, ap, ◌∙◌}
 use Rattle.board.specs.Acts.{act_take, lendable}
 use Rattle.board.proofs.Sequences.{performed_lists}
-use Rattle.service.specs.Turns.{turn}
+use Rattle.service.specs.Turns.{service_acts}
 use Rattle.service.proofs.Hands.{turned, idle}
 use Rattle.service.proofs.turns.serve_in_turn.Goals as goal
 
@@ -16,7 +16,7 @@ returns-then-not-two-clause-served g c =
       first.1,
       sym (ap lendable first.2.state) ∙ none.0,
       none.1.state ∙ first.2.state,
-      performed_lists g.S.Stage (act_take ∷ []) (turn first.0 c.args.first []) _ _ _ first.2 none.2,
+      performed_lists g.S.Stage (act_take ∷ []) (service_acts first.0 c.args.first []) _ _ _ first.2 none.2,
     )
 
 pub returns-clause-served : goal.returns-clause-served
@@ -27,5 +27,5 @@ returns-clause-served g c =
       second.0,
       first.1,
       second.1 ∙ ap lendable first.2.state,
-      performed_lists g.S.Stage (turn second.0 c.args.second []) (turn first.0 c.args.first []) _ _ _ first.2 second.2,
+      performed_lists g.S.Stage (service_acts second.0 c.args.second []) (service_acts first.0 c.args.first []) _ _ _ first.2 second.2,
     )

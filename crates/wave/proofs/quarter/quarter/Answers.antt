@@ -1,5 +1,5 @@
 use Rattle.std.proofs.Common.{rules, sym, subst}
-use Rattle.wave.specs.Quarter.{Sine}
+use Rattle.wave.specs.Quarter.{IsSine}
 use Rattle.wave.proofs.Sines.{sine}
 use Rattle.wave.proofs.quarter.quarter.Goals as goal
 
@@ -7,4 +7,4 @@ pub returns-clause-is : goal.returns-clause-is
 returns-clause-is c = search rules
 
 pub returns-clause-sine : goal.returns-clause-sine
-returns-clause-sine c = subst (Sine 64) (sym (returns-clause-is c)) sine
+returns-clause-sine c = subst (IsSine 64) (sym (returns-clause-is c)) sine

@@ -1,12 +1,12 @@
 use Rattle.std.proofs.Common.{refl, ◌∙◌, rules}
-use Rattle.board.proofs.Owed.{did}
+use Rattle.board.proofs.Owed.{performs}
 use Rattle.board.proofs.board.Board.take.Goals as goal
 
 pub invariant_of-result : goal.invariant_of-result
 invariant_of-result g c = record { known = c.in_ok-gate.ensures.bound }
 
 pub returns : goal.returns
-returns g c = record { did = did _ _ _ _ _ c.in_ok-gate.ensures.answer c.take.ensures.state refl refl; unspent = refl }
+returns g c = record { did = performs _ _ _ _ _ c.in_ok-gate.ensures.answer c.take.ensures.state refl refl; unspent = refl }
 
 pub returns-in_err-gate-clause-did : goal.returns-in_err-gate-clause-did
-returns-in_err-gate-clause-did g c = did _ _ _ _ _ ((search rules) ∙ c.in_err-gate.ensures.answer) c.take.ensures.state refl refl
+returns-in_err-gate-clause-did g c = performs _ _ _ _ _ ((search rules) ∙ c.in_err-gate.ensures.answer) c.take.ensures.state refl refl

@@ -1,6 +1,6 @@
 use Rattle.std.proofs.Common.{◌<◌, set, sym, refl, ◌∙◌, rules}
 use Rattle.board.specs.declared.table.Table.{Table}
-use Rattle.board.specs.Own.{taken}
+use Rattle.board.specs.Own.{entry_take}
 use Rattle.board.proofs.Tables.{sound_at, fit_set, entered, take_answer, take_state}
 use Rattle.board.proofs.table.Table.take.Goals as goal
 
@@ -14,6 +14,6 @@ returns c =
     record {
       answer = take_answer t k e;
       bound = h;
-      state = take_state t k e u (entered t u k taken c.lend.new.self (search rules) h refl c.lend.ensures.is refl refl);
+      state = take_state t k e u (entered t u k entry_take c.lend.new.self (search rules) h refl c.lend.ensures.is refl refl);
       fit = fit_set t u k c.lend.new.self c.requires (c.lend.ensures.sound (sound_at t k h c.requires)) refl c.requires.current;
     }

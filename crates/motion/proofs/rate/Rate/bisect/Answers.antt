@@ -1,6 +1,6 @@
 use borrow.Author.Tests.{true-leb, false-leb}
 use Rattle.std.proofs.Common.{◌≡◌, ℕ, suc, ◌+◌, ◌-◌, ◌*◌, ◌/◌, ◌^◌, ◌<◌, ap, ◌∙◌, pow-suc, arith}
-use Rattle.motion.specs.Reach.{reach}
+use Rattle.motion.specs.StoppingDistance.{stopping_distance}
 use Rattle.motion.proofs.rate.Rate.bisect.Goals as goal
 use Rattle.motion.proofs.rate.Rate.bisect.Goals.{then-fits, else-fits}
 
@@ -13,7 +13,7 @@ halving turn h =
 pub loop-turn-preserved : goal.loop-turn-preserved
 loop-turn-preserved c =
     let h = halving c.loop-turn._turn c.loop-turn-test.true in
-    let at = reach c.args.self.size in
+    let at = stopping_distance c.args.self.size in
     let middle = (c.loop-turn.low + c.loop-turn.high) / 2 in
     elim c.if-fits.branch [
       | then-fits w ↦

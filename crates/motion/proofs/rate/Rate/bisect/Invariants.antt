@@ -1,5 +1,5 @@
 use Rattle.std.proofs.Common.{◌+◌, ◌-◌, ◌^◌, ◌<◌, ◌≤◌}
-use Rattle.motion.specs.Reach.{reach}
+use Rattle.motion.specs.StoppingDistance.{stopping_distance}
 use Rattle.motion.proofs.rate.Rate.bisect.Given as goal
 
 abbrev pub invariant-loop-turn : goal.invariant-loop-turn
@@ -7,5 +7,5 @@ invariant-loop-turn l =
     (l.low < l.high)
     × (l.high ≤ l.initial.high)
     × (l.high ≤ l.low + 2 ^ (29 - l._turn))
-    × (reach l.self.size l.low ≤ l.distance)
-    × (l.distance < reach l.self.size l.high)
+    × (stopping_distance l.self.size l.low ≤ l.distance)
+    × (l.distance < stopping_distance l.self.size l.high)

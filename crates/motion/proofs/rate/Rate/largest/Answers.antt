@@ -1,7 +1,7 @@
 use borrow.Author.Tests.{true-leb}
 use Rattle.std.proofs.Common.{◌≡◌, subst, arith}
-use Rattle.motion.specs.Reach.{reach}
-use Rattle.motion.specs.Speed.{Largest}
+use Rattle.motion.specs.StoppingDistance.{stopping_distance}
+use Rattle.motion.specs.Speed.{IsLargest}
 use Rattle.motion.proofs.Fastest.{largest_is, largest_only, largest_next, largest_top}
 use Rattle.motion.proofs.rate.Rate.largest.Goals as goal
 
@@ -11,12 +11,12 @@ returns-then-floor-top-clause-is c =
 
 pub returns-then-fits-clause-best : goal.returns-then-fits-clause-best
 returns-then-fits-clause-best c _ =
-    largest_top _ _ _ (true-leb (reach c.args.self.size c.args.top) c.args.distance c.if-fits.ensures)
+    largest_top _ _ _ (true-leb (stopping_distance c.args.self.size c.args.top) c.args.distance c.if-fits.ensures)
 
 pub returns-then-fits-2-clause-is : goal.returns-then-fits-2-clause-is
 returns-then-fits-2-clause-is c =
     let pivot = c.max-pivot.result in
-    let fits = true-leb (reach c.args.self.size pivot) c.args.distance c.if-fits-2.ensures in
+    let fits = true-leb (stopping_distance c.args.self.size pivot) c.args.distance c.if-fits-2.ensures in
     let best = largest_next _ _ c.args.top _ (omega arith) (omega arith) c.bisect.ensures.fits c.bisect.ensures.over in
     omega (arith, best.most pivot (omega arith) fits, largest_only _ _ _ _ best)
 
@@ -29,4 +29,4 @@ returns-else-pivot-next-clause-best c above =
     let found = c.bisect-else-pivot-next in
     let best = largest_next _ _ c.args.top _ (omega arith) (omega arith) found.ensures.fits found.ensures.over in
     let same : found.result ≡ c.max.result = omega arith in
-    subst (Largest c.args.self.size c.args.distance c.args.top) same best
+    subst (IsLargest c.args.self.size c.args.distance c.args.top) same best

@@ -1,9 +1,9 @@
 use Rattle.std.proofs.Common.{◌≡◌, Bool, true, false, ℤ, ap, ◌∙◌, w32, SFits, rules}
 use Rattle.std.specs.Result.{is_ok}
 use Rattle.gate.specs.declared.load.Load.TheVariants as load
-use Rattle.gate.specs.Gates.{latched}
-use Rattle.gate.specs.Loads.{load_fits, loaded}
-use Rattle.travel.specs.Plans.{good_acceleration, good_destination, good_power, good_velocity}
+use Rattle.gate.specs.Gates.{latch}
+use Rattle.gate.specs.Loads.{load_fits, with_load}
+use Rattle.travel.specs.Plans.{has_good_acceleration, has_good_destination, has_good_power, has_good_velocity}
 use Rattle.travel.proofs.Takes.{goes_on, fits_bits, sends, speeds, hastens, powers}
 use Rattle.travel.proofs.journey.Journey.new.Goals as goal
 
@@ -18,8 +18,8 @@ returns-in_err-or-3 c =
     let p = c.args.plan in
     let d : SFits w32 p.destination = search rules in
     let a : SFits w32 p.acceleration = search rules in
-    let first : good_destination p ≡ true = fits_bits to_destination _ _ d c.cast_unsigned.ensures ∙ (goes_on _ _ _ _ c.run_long.ensures.answer c.or.ensures ∙ ap is_ok c.in_ok-or.was) in
-    let third : good_acceleration p ≡ false = fits_bits to_acceleration _ _ a c.cast_unsigned-2.ensures ∙ (goes_on _ _ _ _ c.run_long-3.ensures.answer c.or-3.ensures ∙ ap is_ok c.in_err-or-3.was) in
+    let first : has_good_destination p ≡ true = fits_bits to_destination _ _ d c.cast_unsigned.ensures ∙ (goes_on _ _ _ _ c.run_long.ensures.answer c.or.ensures ∙ ap is_ok c.in_ok-or.was) in
+    let third : has_good_acceleration p ≡ false = fits_bits to_acceleration _ _ a c.cast_unsigned-2.ensures ∙ (goes_on _ _ _ _ c.run_long-3.ensures.answer c.or-3.ensures ∙ ap is_ok c.in_err-or-3.was) in
     search rules
 
 pub returns-in_err-or-4 : goal.returns-in_err-or-4
@@ -27,10 +27,10 @@ returns-in_err-or-4 c =
     let p = c.args.plan in
     let d : SFits w32 p.destination = search rules in
     let a : SFits w32 p.acceleration = search rules in
-    let first : good_destination p ≡ true = fits_bits to_destination _ _ d c.cast_unsigned.ensures ∙ (goes_on _ _ _ _ c.run_long.ensures.answer c.or.ensures ∙ ap is_ok c.in_ok-or.was) in
-    let second : good_velocity p ≡ true = goes_on _ _ _ _ c.run_long-2.ensures.answer c.or-2.ensures ∙ ap is_ok c.in_ok-or-2.was in
-    let third : good_acceleration p ≡ true = fits_bits to_acceleration _ _ a c.cast_unsigned-2.ensures ∙ (goes_on _ _ _ _ c.run_long-3.ensures.answer c.or-3.ensures ∙ ap is_ok c.in_ok-or-3.was) in
-    let fourth : good_power p ≡ false = goes_on _ _ _ _ c.run_word.ensures.answer c.or-4.ensures ∙ ap is_ok c.in_err-or-4.was in
+    let first : has_good_destination p ≡ true = fits_bits to_destination _ _ d c.cast_unsigned.ensures ∙ (goes_on _ _ _ _ c.run_long.ensures.answer c.or.ensures ∙ ap is_ok c.in_ok-or.was) in
+    let second : has_good_velocity p ≡ true = goes_on _ _ _ _ c.run_long-2.ensures.answer c.or-2.ensures ∙ ap is_ok c.in_ok-or-2.was in
+    let third : has_good_acceleration p ≡ true = fits_bits to_acceleration _ _ a c.cast_unsigned-2.ensures ∙ (goes_on _ _ _ _ c.run_long-3.ensures.answer c.or-3.ensures ∙ ap is_ok c.in_ok-or-3.was) in
+    let fourth : has_good_power p ≡ false = goes_on _ _ _ _ c.run_word.ensures.answer c.or-4.ensures ∙ ap is_ok c.in_err-or-4.was in
     search rules
 
 pub invariant_of-result : goal.invariant_of-result
@@ -46,14 +46,14 @@ returns c =
     let second = goes_on _ _ _ _ c.run_long-2.ensures.answer c.or-2.ensures ∙ ap is_ok c.in_ok-or-2.was in
     let third = goes_on _ _ _ _ c.run_long-3.ensures.answer c.or-3.ensures ∙ ap is_ok c.in_ok-or-3.was in
     let fourth = goes_on _ _ _ _ c.run_word.ensures.answer c.or-4.ensures ∙ ap is_ok c.in_ok-or-4.was in
-    let one = sends _ _ _ _ d c.cast_unsigned.ensures c.run_long.ensures.is first ∙ ap (loaded (load.Destination p.destination)) c.fresh-gate.ensures.is in
-    let two = speeds _ _ _ c.run_long-2.ensures.is second ∙ ap (loaded (load.Velocity p.velocity)) one in
-    let three = hastens _ _ _ _ a c.cast_unsigned-2.ensures c.run_long-3.ensures.is third ∙ ap (loaded (load.Acceleration p.acceleration)) two in
-    let four = powers _ _ _ c.run_word.ensures.is fourth ∙ ap (loaded (load.Power p.power)) three in
+    let one = sends _ _ _ _ d c.cast_unsigned.ensures c.run_long.ensures.is first ∙ ap (with_load (load.Destination p.destination)) c.fresh-gate.ensures.is in
+    let two = speeds _ _ _ c.run_long-2.ensures.is second ∙ ap (with_load (load.Velocity p.velocity)) one in
+    let three = hastens _ _ _ _ a c.cast_unsigned-2.ensures c.run_long-3.ensures.is third ∙ ap (with_load (load.Acceleration p.acceleration)) two in
+    let four = powers _ _ _ c.run_word.ensures.is fourth ∙ ap (with_load (load.Power p.power)) three in
     record {
       destination = fits_bits to_destination _ _ d c.cast_unsigned.ensures ∙ first;
       velocity = second;
       acceleration = fits_bits to_acceleration _ _ a c.cast_unsigned-2.ensures ∙ third;
       power = fourth;
-      is = c.run.ensures.is ∙ ap latched four;
+      is = c.run.ensures.is ∙ ap latch four;
     }

@@ -1,7 +1,7 @@
 use Rattle.std.proofs.Common.{rules, ◌≡◌, ℤ, pos, ◌+ℤ◌, ◌-ℤ◌, subst, arith, w32, to_z, of_z}
 use Rattle.std.proofs.lemmas.Int.{ints}
 use Rattle.windings.specs.declared.settings.Settings.{Settings}
-use Rattle.windings.specs.Rows.{Driven}
+use Rattle.windings.specs.Rows.{IsDriven}
 use Rattle.windings.proofs.rig.Rig.show.Goals as goal
 
 pub loop-position-preserved : goal.loop-position-preserved
@@ -9,7 +9,7 @@ loop-position-preserved g c =
     let now : ℤ = to_z w32 c.loop-position.position-bits in
     let next : ℤ = to_z w32 (of_z w32 (now +ℤ pos 1)) in
     let at : now ≡ next -ℤ pos 1 = omega (arith, ints) in
-    let shows = λ (s : Settings) (p : ℤ). Driven s p c.step.new.self.dac c.step.new.self.pwm in
+    let shows = λ (s : Settings) (p : ℤ). IsDriven s p c.step.new.self.dac c.step.new.self.pwm in
     record {
       settings = search rules;
       wire = search rules;
@@ -22,4 +22,4 @@ loop-position-preserved g c =
 pub returns-clause-driven : goal.returns-clause-driven
 returns-clause-driven g c =
     let at : to_z w32 c.loop-position.position-bits -ℤ pos 1 ≡ pos 255 = omega (arith, ints) in
-    subst (λ (p : ℤ). Driven c.loop-position.self.settings p c.loop-position.self.dac c.loop-position.self.pwm) at (c.loop-position.invariant.driven (omega (arith, ints)))
+    subst (λ (p : ℤ). IsDriven c.loop-position.self.settings p c.loop-position.self.dac c.loop-position.self.pwm) at (c.loop-position.invariant.driven (omega (arith, ints)))
