@@ -6,6 +6,7 @@ use Rattle.std.specs.Iterator.{DrainsIf}
 use Rattle.std.specs.Str.Iter.{split_whitespace_rest, split_whitespace_steps}
 use Rattle.std.specs.declared.str.SplitWhitespace.{SplitWhitespace}
 use Rattle.stage.specs.declared.Stage.{Ghosts}
+use Rattle.stage.specs.declared.codes.Codes.{Codes}
 use Rattle.board.specs.declared.refusal.Refusal.{Refusal}
 use Rattle.script.specs.declared.boards.Boards.{Boards}
 use Rattle.script.specs.declared.fault.Expected.{Expected}
@@ -22,10 +23,11 @@ text_before_comment text = before_first (λ b. b == 35) text
 abbrev pub IsWordsOf : List ℕ → List (Bor (List ℕ)) → Type 0
 IsWordsOf text words = (it : SplitWhitespace) × (split_whitespace_rest it ≡ text) × DrainsIf split_whitespace_steps ⊤ it words
 
-module _ {S R : Type 0} (m : Ghosts S) (n : Ghosts R) where
+-- over two makes of stage, of which `look` and `see` tell what is on their wires
+module _ {S R : Type 0} (m : Ghosts S) (n : Ghosts R) (look : S → Codes) (see : R → Codes) where
   -- a line that could be read is played, and any other leaves the boards alone
   abbrev pub PlaysIfRead : Result Line Expected → Bool → Boards S R m n → Boards S R m n → Type 0
-  PlaysIfRead (Ok l) readable x y = (readable ≡ true) × ((answer : Result (Option Reply) Refusal) × PlaysOnBoards m n l answer x y)
+  PlaysIfRead (Ok l) readable x y = (readable ≡ true) × ((answer : Result (Option Reply) Refusal) × PlaysOnBoards m n look see l answer x y)
   PlaysIfRead (Err e) readable x y = (readable ≡ false) × (y ≡ x)
 
   -- the words of a text without its comment are read as a line, and played

@@ -23,7 +23,8 @@ fn play_line<S: Wires + Drop, R: Wires + Drop>(
     text: &str,
 ) -> anyhow::Result<bool>
     ensures { IfOk result
-        (λ readable. PlaysText S.Stage R.Stage text.now readable boards.old boards.new) }
+        (λ readable. PlaysText S.Stage R.Stage S.codes R.codes text.now readable boards.old
+        boards.new) }
 {
     let words: Vec<&str> = uncommented(text).split_whitespace().collect(rt.alloc())?;
     match Line::try_from(words.as_slice()) {
@@ -47,7 +48,8 @@ pub fn play_script<S: Wires + Drop, R: Wires + Drop>(
     script: &str,
 ) -> anyhow::Result<usize>
     ensures { IfOk result
-        (λ faults. PlaysScript S.Stage R.Stage (lines script.now) faults boards.old boards.new) }
+        (λ faults. PlaysScript S.Stage R.Stage S.codes R.codes (lines script.now) faults boards.old
+        boards.new) }
 {
     // Counted in the loop: a fold that may fail would hide the printing of a line in a closure.
     let mut faults = 0usize;
