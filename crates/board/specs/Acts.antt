@@ -30,7 +30,8 @@ pub record State : Type 0 where
   pub current : ℕ
   pub port : Port
 
--- what stands past the end of the table's two gates, where nothing looks
+-- what stands past the end of the table's two gates, where nothing looks: each field has the first value of its type, as in the proofs
+-- that the checker writes
 abbrev pub blank_gate : Gate
 blank_gate =
     record {

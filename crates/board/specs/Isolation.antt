@@ -116,7 +116,7 @@ module _ {S : Type 0} (m : Ghosts S) (b : Board S m) where
   FollowsBook = (k : ℕ) → k < 2 → (h : List Act) → ReachedBy m h b → (gate_of (state_of b.table) k).active ≡ (book (own_list k h)).latched
 
 module _ {S R : Type 0} (m : Ghosts S) (b : Board S m) (n : Ghosts R) (d : Board R n) where
-  -- what two boards that came by h and by i have in common of gate k
+  -- what two boards that are reached by h and by i have in common of gate k
   pub record IsAlike (k : ℕ) (h i : List Act) : Type 0 where
     pub record_same : gate_of (state_of b.table) k ≡ gate_of (state_of d.table) k
     pub answers_same : own_answers k h ≡ own_answers k i
@@ -125,6 +125,6 @@ module _ {S R : Type 0} (m : Ghosts S) (b : Board S m) (n : Ghosts R) (d : Board
     pub near_b : DifferByLessThan (max m.STEP n.STEP) (pair_at (m.pairs b.stage) k).1 (pair_at (n.pairs d.stage) k).1
     pub latched : (gate_of (state_of b.table) k).active ≡ (book (own_list k h)).latched
 
-  -- what one gate does and answers hangs on its own list alone, whatever lists of acts the two boards came by
+  -- what one gate does and answers hangs on its own list alone, whatever lists of acts the two boards are reached by
   abbrev pub IsIsolated : Type 0
   IsIsolated = (k : ℕ) → k < 2 → (h i : List Act) → ReachedBy m h b → ReachedBy n i d → own_list k h ≡ own_list k i → IsAlike k h i

@@ -55,7 +55,7 @@ pair_at p k = cond (k == 0) p.one p.two
 
 -- a board, over a make m of stage
 module _ {S : Type 0} (m : Ghosts S) where
-  -- the board came to be, from a new one, by the acts of h
+  -- the board is what the acts of h make of a new one
   pub record ReachedBy (h : List Act) (b : Board S m) : Type 0 where
     pub state : state_of b.table ≡ state_after h
     pub pairs : m.pairs b.stage ≡ quantized_pairs m.STEP (given_pairs_after h)
