@@ -2,3 +2,4 @@ pub mod Makes
 pub mod Lots
 pub mod Works
 pub mod Scripts
+pub mod Prints

@@ -1,6 +1,8 @@
-ghost use Rattle.std.specs.Prelude.{◌≡◌, None, pos};
+ghost use Rattle.std.specs.Prelude.{◌≡◌, Some, None, pos};
+ghost use Rattle.std.specs.Fmt.{WritesOnOk};
 ghost use Rattle.gate.specs.Sound.{IsSound};
 ghost use Rattle.host.specs.Lots.{outcome_after};
+ghost use Rattle.host.specs.Prints.{cycle_text, cycles_text, lot_text, outcome_text};
 
 use gate::gate::Gate;
 use motion::course::microsteps;
@@ -97,34 +99,60 @@ impl Outcome {
     }
 }
 
-// The number of a cycle, or a dash where there is none.
-#[derive(Clone, Copy)]
-struct Cycle(Option<u32>);
-
-impl fmt::Display for Cycle {
-    fn fmt<W: fmt::Write>(&self, f: &mut fmt::Formatter<W>) -> fmt::Result {
-        match self.0 {
-            Some(number) => number.fmt(f),
-            None => f.pad("-"),
-        }
+// The number of a cycle at the right of eight characters, or a dash where there is none.
+fn write_cycle<W: fmt::Write>(f: &mut fmt::Formatter<W>, cycle: Option<u32>) -> fmt::Result
+    ensures { WritesOnOk W.write_str_gives f.old result (cycle_text cycle) f.new }
+{
+    match cycle {
+        Some(number) => write!(f, "{number:>8}"),
+        None => f.write_str("       -"),
     }
+}
+
+// The cycles in which a gate set off and arrived, with a blank between them.
+fn write_cycles<W: fmt::Write>(
+    f: &mut fmt::Formatter<W>,
+    set_off: Option<u32>,
+    arrived: Option<u32>,
+) -> fmt::Result
+    ensures { WritesOnOk W.write_str_gives f.old result (cycles_text set_off arrived) f.new }
+{
+    write_cycle(f, set_off)?;
+    f.write_str(" ")?;
+    write_cycle(f, arrived)
 }
 
 pub const HEADING: &str = "destination  velocity  acceleration  latched   moves    rests    target";
 
-impl fmt::Display for Outcome {
+impl fmt::Display for Lot {
+    ghost output = { λ lot. Some (lot_text lot) };
+
     fn fmt<W: fmt::Write>(&self, f: &mut fmt::Formatter<W>) -> fmt::Result {
         let Lot {
             destination,
             velocity,
             acceleration,
             start,
-        } = self.lot;
-        let (set_off, arrived) = (Cycle(self.set_off), Cycle(self.arrived));
-        let target = self.target;
+        } = *self;
         write!(
             f,
-            "{destination:>11}  {velocity:>8}  {acceleration:>12}  {start:>7}{set_off:>8} {arrived:>8}  {target:>8}"
+            "{destination:>11}  {velocity:>8}  {acceleration:>12}  {start:>7}"
         )
+    }
+}
+
+impl fmt::Display for Outcome {
+    ghost output = { λ outcome. Some (outcome_text outcome) };
+
+    fn fmt<W: fmt::Write>(&self, f: &mut fmt::Formatter<W>) -> fmt::Result {
+        let Outcome {
+            lot,
+            set_off,
+            arrived,
+            target,
+        } = *self;
+        write!(f, "{lot}")?;
+        write_cycles(f, set_off, arrived)?;
+        write!(f, "  {target:>8}")
     }
 }
