@@ -4,7 +4,7 @@ use Rattle.std.proofs.Props.{props}
 use Rattle.gate.specs.declared.gate.Gate.{Gate}
 use Rattle.gate.specs.declared.inputs.Inputs.{Inputs}
 use Rattle.gate.specs.declared.orders.Order.TheVariants.{Update}
-use Rattle.gate.specs.declared.breakpoint.BreakMode.TheVariants.{Off}
+use Rattle.gate.specs.declared.gate.BreakMode.TheVariants.{Off}
 use Rattle.gate.specs.declared.profile.ProfileMode.TheVariants.{Trapezoidal}
 use Rattle.gate.specs.Events.{no_events}
 use Rattle.wave.specs.declared.phases.MotorKind.TheVariants.{TwoPhase}

@@ -2,7 +2,7 @@
 use Rattle.std.specs.Prelude.{◌≡◌, ℕ, true, false, cond, Some, None, Option, Result, ◌==◌}
 use Rattle.std.specs.Option.{ok_or}
 use Rattle.wave.specs.declared.phases.MotorKind.TheVariants as motor
-use Rattle.gate.specs.declared.breakpoint.BreakMode.TheVariants as break
+use Rattle.gate.specs.declared.gate.BreakMode.TheVariants as break
 use Rattle.gate.specs.declared.profile.ProfileMode.TheVariants as mode
 use Rattle.gate.specs.declared.orders.Order.TheVariants.{Mode, Stop, Update, Auto, Break, Motor}
 use Rattle.gate.specs.declared.orders.WordOrder.TheVariants as word

@@ -53,6 +53,13 @@ quantized_pairs step p = record { one = quantized_pair step p.one; two = quantiz
 abbrev pub pair_at : Pairs → ℕ → Pair
 pair_at p k = cond (k == 0) p.one p.two
 
+-- a board's state and its stage, for who sees no field of a board
+abbrev pub board_state : {S : Type 0} {m : Ghosts S} → Board S m → State
+board_state b = state_of b.table
+
+abbrev pub stage_of : {S : Type 0} {m : Ghosts S} → Board S m → S
+stage_of b = b.stage
+
 -- a board, over a make m of stage
 module _ {S : Type 0} (m : Ghosts S) where
   -- the board is what the acts of h make of a new one

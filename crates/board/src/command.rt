@@ -2,7 +2,7 @@ ghost use Rattle.std.specs.Prelude.{◌≡◌, Some};
 ghost use Rattle.board.specs.Commands.{Decodes, Encodes, code_table, takes, gives};
 
 use crate::refusal::Refusal;
-use gate::breakpoint::BreakMode;
+use gate::gate::BreakMode;
 use gate::orders::{LongOrder, Order, WordOrder};
 use gate::profile::ProfileMode;
 use gate::queries::Query;

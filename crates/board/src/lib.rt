@@ -1,7 +1,6 @@
 // The board: two gates, one port, one output stage. Its rules: docs/BOARD.md.
 #![tactic(auto)]
 
-mod acts;
 pub mod board;
 pub mod command;
 mod port;

@@ -6,8 +6,8 @@ use Rattle.board.specs.declared.board.Board.{Board}
 use Rattle.board.specs.declared.refusal.Refusal.{Refusal}
 use Rattle.board.specs.declared.slip.Slip.{Slip}
 use Rattle.board.specs.Own.{Answer, answer_slip, answer_refused, answer_done}
-use Rattle.board.specs.Acts.{Act, act_close, state_of, gate_of, answer_of_unit}
-use Rattle.board.specs.Runs.{Performs, BoardUnchanged}
+use Rattle.board.specs.Acts.{Act, act_close, gate_of, answer_of_unit}
+use Rattle.board.specs.Runs.{Performs, BoardUnchanged, board_state}
 use Rattle.board.specs.Sequences.{PerformsAll}
 
 -- a take's answer, from the number of the slip's gate
@@ -18,7 +18,7 @@ answer_of_number (Err e) = answer_refused e
 -- a gate's slip that is out is closed; where the number names no gate, or that gate's slip is not out, nothing changes
 abbrev pub ClosesSlip : {S : Type 0} (m : Ghosts S) → ℕ → ℕ → Bool → Board S m → Board S m → Type 0
 ClosesSlip m gate w true b c = (is_gate gate ≡ true) × Performs m (act_close (gate - 1) w) answer_done b c
-ClosesSlip m gate w false b c = (is_gate gate ≡ true → (gate_of (state_of b.table) (gate - 1)).slip ≡ false) × BoardUnchanged m b c
+ClosesSlip m gate w false b c = (is_gate gate ≡ true → (gate_of (board_state b) (gate - 1)).slip ≡ false) × BoardUnchanged m b c
 
 -- the closes of the slips that are out, the newest first
 abbrev pub closing_acts : Bool → Bool → List Act
@@ -26,7 +26,7 @@ closing_acts one two = cond two (act_close 1 65535 ∷ []) [] ++ cond one (act_c
 
 -- every slip that was out is closed
 abbrev pub ClosesAll : {S : Type 0} (m : Ghosts S) → Board S m → Board S m → Type 0
-ClosesAll m b c = PerformsAll m (closing_acts (state_of b.table).one.slip (state_of b.table).two.slip) b c
+ClosesAll m b c = PerformsAll m (closing_acts (board_state b).one.slip (board_state b).two.slip) b c
 
 -- the slip at one place is closed at a board whose own slip stands at another place: accepted, the other slip takes its place;
 -- refused, it is put back
@@ -43,7 +43,7 @@ ClosesAt n w (Some (Err e)) b c mine after theirs left =
 abbrev pub ClosesElsewhere : {S R : Type 0} (m : Ghosts S) (n : Ghosts R) → ℕ → ℕ → Option (Result (Unit {0}) Refusal) → Board S m
     → Board S m → Board R n → Board R n → Type 0
 ClosesElsewhere m n gate w None a b c d =
-    (is_gate gate ≡ true → (gate_of (state_of a.table) (gate - 1)).slip ≡ false) × BoardUnchanged m a b × BoardUnchanged n c d
+    (is_gate gate ≡ true → (gate_of (board_state a) (gate - 1)).slip ≡ false) × BoardUnchanged m a b × BoardUnchanged n c d
 ClosesElsewhere m n gate w (Some r) a b c d =
-    (is_gate gate ≡ true) × ((gate_of (state_of a.table) (gate - 1)).slip ≡ true) × BoardUnchanged m a b
+    (is_gate gate ≡ true) × ((gate_of (board_state a) (gate - 1)).slip ≡ true) × BoardUnchanged m a b
     × Performs n (act_close (gate - 1) w) (answer_of_unit r) c d

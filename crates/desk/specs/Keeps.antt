@@ -3,7 +3,8 @@ use Rattle.std.specs.Prelude.{ℕ, Bool, not, ◌&&◌, Some, None, Option, ◌=
 use Rattle.stage.specs.declared.Stage.{Ghosts}
 use Rattle.board.specs.declared.board.Board.{Board}
 use Rattle.board.specs.declared.slip.Slip.{Slip}
-use Rattle.board.specs.Acts.{State, state_of}
+use Rattle.board.specs.Acts.{State}
+use Rattle.board.specs.Runs.{board_state}
 
 -- a slip of gate k is kept just while that gate's slip is out
 abbrev pub is_kept_while_out : ℕ → Option Slip → Bool → Bool
@@ -14,4 +15,4 @@ abbrev pub state_keeps : State → Option Slip → Option Slip → Bool
 state_keeps s first second = is_kept_while_out 0 first s.one.slip && is_kept_while_out 1 second s.two.slip
 
 abbrev pub keeps : {S : Type 0} {m : Ghosts S} → Board S m → Option Slip → Option Slip → Bool
-keeps b first second = state_keeps (state_of b.table) first second
+keeps b first second = state_keeps (board_state b) first second

@@ -1,3 +1,4 @@
 pub mod Keeps
 pub mod Closes
 pub mod Runs
+pub mod Desks

@@ -1,13 +1,16 @@
-ghost use Rattle.std.specs.Prelude.{◌≡◌, true};
+ghost use Rattle.std.specs.Prelude.{◌≡◌, true, Some, None};
+ghost use Rattle.board.specs.Own.{answer_done};
+ghost use Rattle.board.specs.Acts.{act_close, gate_of};
+ghost use Rattle.board.specs.Runs.{Performs, board_state};
 ghost use Rattle.desk.specs.Keeps.{keeps};
 
 use board::board::Board;
+use board::refusal::Refusal;
 use board::slip::Slip;
+use gate::inputs::Inputs;
 use stage::Stage;
 
-pub mod calls;
 pub mod elsewhere;
-pub mod slips;
 
 /// A board and the slips taken from it that are not closed yet: at all times one for each gate whose slip is out. A desk cannot be let
 /// go while it may keep a slip; `finish` closes what is left. Each slip has a field of its own, which the invariant names by its gate.
@@ -16,4 +19,142 @@ pub struct Desk<S: Stage + Drop> {
     first: Option<Slip>,
     second: Option<Slip>,
     ghost kept: { keeps board first second ≡ true },
+}
+
+/// A word for a close that clears no event bit.
+pub const CLEARS_NOTHING: u16 = 0xffff;
+
+// Puts a slip where none is kept, so that none is let go.
+pub(crate) fn put(place: &mut Option<Slip>, slip: Slip)
+    requires { place.old ≡ None }
+    ensures { place.new ≡ Some slip }
+{
+    *place = Some(slip);
+}
+
+// Closes a slip at a board where its gate's slip is out.
+fn close_out<S: Stage + Drop>(board: &mut Board<S>, slip: Slip, word: u16)
+    requires { (gate_of (board_state board.old) slip.gate).slip ≡ true }
+    ensures { Performs S.Stage (act_close slip.gate word) answer_done board.old board.new }
+{
+    board.close(slip, word).unwrap();
+}
+
+impl<S: Stage + Drop> Desk<S> {
+    ghost use Rattle.std.specs.Prelude.{[], false, IfOk};
+    ghost use Rattle.board.specs.Acts.{answer_of_unit, answer_of_word, act_command, act_write, act_read, act_cycle, act_reset, act_take};
+    ghost use Rattle.board.specs.Runs.{ReachedBy};
+    ghost use Rattle.desk.specs.Runs.{RunsCycles};
+    ghost use Rattle.stage.specs.Pairs.{is_gate};
+    ghost use Rattle.desk.specs.Closes.{answer_of_number, ClosesSlip, ClosesAll};
+
+    /// A new board, and no slip.
+    pub fn new(stage: S) -> Desk<S>
+        ensures { ReachedBy S.Stage [] result.board }
+    {
+        Desk {
+            board: Board::new(stage),
+            first: None,
+            second: None,
+        }
+    }
+
+    /// The board, to be asked.
+    pub fn board(&self) -> &Board<S>
+        ensures { result.now ≡ self.now.board }
+    {
+        &self.board
+    }
+
+    pub fn command(&mut self, code: u8) -> Result<(), Refusal>
+        ensures { Performs S.Stage (act_command code) (answer_of_unit result) self.old.board
+            self.new.board }
+    {
+        self.board.command(code)
+    }
+
+    pub fn write(&mut self, word: u16) -> Result<(), Refusal>
+        ensures { Performs S.Stage (act_write word) (answer_of_unit result) self.old.board
+            self.new.board }
+    {
+        self.board.write(word)
+    }
+
+    pub fn read(&mut self) -> Result<u16, Refusal>
+        ensures { Performs S.Stage act_read (answer_of_word result) self.old.board self.new.board }
+    {
+        self.board.read()
+    }
+
+    pub fn cycle(&mut self, one: Inputs, two: Inputs)
+        ensures { Performs S.Stage (act_cycle one two) answer_done self.old.board self.new.board }
+    {
+        self.board.cycle(one, two);
+    }
+
+    /// So many cycles in which no gate's encoder counts and no switch is active.
+    pub fn run(&mut self, cycles: u32)
+        ensures { RunsCycles S.Stage cycles self.old.board self.new.board }
+    {
+        for _turn in 0..cycles {
+            self.cycle(Inputs::STILL, Inputs::STILL);
+        }
+    }
+
+    pub fn reset(&mut self)
+        ensures { Performs S.Stage act_reset answer_done self.old.board self.new.board }
+    {
+        self.board.reset();
+    }
+
+    /// Takes a slip and keeps it; answers its gate, 1 or 2.
+    pub fn take(&mut self) -> Result<u8, Refusal>
+        ensures did { Performs S.Stage act_take (answer_of_number result) self.old.board
+            self.new.board }
+        ensures gate { IfOk result (λ n. is_gate n ≡ true) }
+    {
+        let slip = self.board.take()?;
+        let gate = slip.gate();
+        if gate == 1 {
+            put(&mut self.first, slip);
+        } else {
+            put(&mut self.second, slip);
+        }
+        Ok(gate)
+    }
+
+    /// Closes the slip that is kept for a gate, 1 or 2; answers whether there was one. Gate and word come apart, as slip and word do at a
+    /// board's close.
+    pub fn close(&mut self, gate: u8, word: u16) -> bool
+        ensures { ClosesSlip S.Stage gate word result self.old.board self.new.board }
+    {
+        let kept = match gate {
+            1 => self.first.take(),
+            2 => self.second.take(),
+            _ => None,
+        };
+        let Some(slip) = kept else {
+            return false;
+        };
+        close_out(&mut self.board, slip, word);
+        true
+    }
+
+    /// Closes every slip that is still kept, with a word that clears nothing, and gives the board.
+    pub fn finish(self) -> Board<S>
+        ensures { ClosesAll S.Stage self.board result }
+    {
+        let Desk {
+            mut board,
+            first,
+            second,
+        } = self;
+        if let Some(slip) = first {
+            close_out(&mut board, slip, CLEARS_NOTHING);
+        }
+        if let Some(slip) = second {
+            close_out(&mut board, slip, CLEARS_NOTHING);
+        }
+        board
+    }
 }

@@ -6,16 +6,16 @@ use Rattle.wave.specs.declared.phases.MotorKind.{MotorKind}
 use Rattle.wave.specs.contracts.phases.MotorKindPartialEq.TheImpl as motor_kind_eq
 use Rattle.gate.specs.declared.profile.Profile.{Profile}
 use Rattle.gate.specs.contracts.profile.ProfilePartialEq.TheImpl as profile_eq
-use Rattle.gate.specs.declared.powers.Powers.{Powers}
-use Rattle.gate.specs.contracts.powers.PowersPartialEq.TheImpl as powers_eq
-use Rattle.gate.specs.declared.movement.Motion.{Motion}
-use Rattle.gate.specs.contracts.movement.MotionPartialEq.TheImpl as motion_eq
-use Rattle.gate.specs.declared.breakpoint.Breakpoint.{Breakpoint}
-use Rattle.gate.specs.contracts.breakpoint.BreakpointPartialEq.TheImpl as breakpoint_eq
+use Rattle.gate.specs.declared.gate.Powers.{Powers}
+use Rattle.gate.specs.contracts.gate.PowersPartialEq.TheImpl as powers_eq
+use Rattle.gate.specs.declared.gate.Motion.{Motion}
+use Rattle.gate.specs.contracts.gate.MotionPartialEq.TheImpl as motion_eq
+use Rattle.gate.specs.declared.gate.Breakpoint.{Breakpoint}
+use Rattle.gate.specs.contracts.gate.BreakpointPartialEq.TheImpl as breakpoint_eq
 use Rattle.gate.specs.declared.events.Events.{Events}
 use Rattle.gate.specs.contracts.events.EventsPartialEq.TheImpl as events_eq
-use Rattle.gate.specs.declared.limits.Detectors.{Detectors}
-use Rattle.gate.specs.contracts.limits.DetectorsPartialEq.TheImpl as detectors_eq
+use Rattle.gate.specs.declared.gate.Detectors.{Detectors}
+use Rattle.gate.specs.contracts.gate.DetectorsPartialEq.TheImpl as detectors_eq
 use Rattle.gate.specs.declared.clock.Clock.{Clock}
 use Rattle.gate.specs.contracts.clock.ClockPartialEq.TheImpl as clock_eq
 use Rattle.gate.specs.declared.gate.Gate.{Gate}

@@ -5,7 +5,7 @@ use Rattle.motion.proofs.Velocities.{trapezoid_size, trapezoid_step, cruise_size
 use Rattle.motion.specs.Course.{advanced, counted, crosses, distance_to, microsteps}
 use Rattle.gate.specs.declared.gate.Gate.{Gate}
 use Rattle.gate.specs.declared.inputs.Inputs.{Inputs}
-use Rattle.gate.specs.declared.movement.Motion.{Motion}
+use Rattle.gate.specs.declared.gate.Motion.{Motion}
 use Rattle.gate.specs.declared.profile.ProfileMode.{ProfileMode}
 use Rattle.gate.specs.declared.profile.ProfileMode.TheVariants.{Trapezoidal, Velocity}
 use Rattle.gate.specs.Cycles.{tick, encode, with_limits, trips, trip, condition_holds, with_breakpoint_reached, meets, meet, profile_velocity, next_velocity, advance, arrived, at_rest, settle, cycle}

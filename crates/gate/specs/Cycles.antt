@@ -4,8 +4,8 @@ use Rattle.std.specs.Int.{w32}
 use Rattle.std.proofs.Common.{to_z}
 use Rattle.motion.specs.Course.{advanced, counted, crosses, cruise, distance_to, trapezoid, microsteps}
 use Rattle.wave.specs.Phases.{phases}
-use Rattle.gate.specs.declared.breakpoint.BreakMode.{BreakMode}
-use Rattle.gate.specs.declared.breakpoint.BreakMode.TheVariants.{Off, Time, TargetAbove, TargetBelow, ActualAbove, ActualBelow, Complete, External}
+use Rattle.gate.specs.declared.gate.BreakMode.{BreakMode}
+use Rattle.gate.specs.declared.gate.BreakMode.TheVariants.{Off, Time, TargetAbove, TargetBelow, ActualAbove, ActualBelow, Complete, External}
 use Rattle.gate.specs.declared.events.Events.{Events}
 use Rattle.gate.specs.declared.gate.Gate.{Gate}
 use Rattle.gate.specs.declared.inputs.Inputs.{Inputs}

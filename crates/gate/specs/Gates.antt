@@ -2,13 +2,13 @@
 use Rattle.std.specs.Prelude.{ℕ, Bool, true, false, ◌&&◌, ◌||◌, ℤ, pos, ◌*ℤ◌}
 use Rattle.wave.specs.declared.phases.MotorKind.{MotorKind}
 use Rattle.wave.specs.declared.phases.MotorKind.TheVariants.{TwoPhase}
-use Rattle.gate.specs.declared.breakpoint.BreakMode.TheVariants.{Off}
-use Rattle.gate.specs.declared.breakpoint.Breakpoint.{Breakpoint}
+use Rattle.gate.specs.declared.gate.BreakMode.TheVariants.{Off}
+use Rattle.gate.specs.declared.gate.Breakpoint.{Breakpoint}
 use Rattle.gate.specs.declared.clock.Clock.{Clock}
 use Rattle.gate.specs.declared.events.Events.{Events}
 use Rattle.gate.specs.declared.gate.Gate.{Gate}
-use Rattle.gate.specs.declared.movement.Motion.{Motion}
-use Rattle.gate.specs.declared.powers.Powers.{Powers}
+use Rattle.gate.specs.declared.gate.Motion.{Motion}
+use Rattle.gate.specs.declared.gate.Powers.{Powers}
 use Rattle.gate.specs.declared.profile.ProfileMode.{ProfileMode}
 use Rattle.gate.specs.Events.{no_events}
 use Rattle.gate.specs.Profile.{first_profile}

@@ -3,8 +3,8 @@
 use Rattle.std.specs.Prelude.{◌^◌, ◌<◌, ◌≤◌, unsigned_abs}
 use Rattle.motion.specs.Course.{IsWithin}
 use Rattle.gate.specs.declared.gate.Gate.{Gate}
-use Rattle.gate.specs.declared.movement.Motion.{Motion}
-use Rattle.gate.specs.declared.powers.Powers.{Powers}
+use Rattle.gate.specs.declared.gate.Motion.{Motion}
+use Rattle.gate.specs.declared.gate.Powers.{Powers}
 use Rattle.gate.specs.declared.profile.Profile.{Profile}
 
 -- no acceleration is 0

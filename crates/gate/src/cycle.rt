@@ -3,8 +3,7 @@ ghost use Rattle.gate.specs.Cycles.{tick, encode, trip, meets, meet, next_veloci
 ghost use Rattle.gate.specs.Laws.{RespectsProfile, StepsInOrder};
 ghost use Rattle.gate.specs.Sound.{IsSound};
 
-use crate::breakpoint::BreakMode;
-use crate::gate::Gate;
+use crate::gate::{BreakMode, Gate};
 use crate::inputs::Inputs;
 use crate::profile::ProfileMode;
 use motion::course::{advanced, counted, cruise, distance, microsteps};

@@ -1,18 +1,62 @@
-ghost use Rattle.std.specs.Prelude.{◌≡◌, ◌^◌, true, false, pos, ◌*ℤ◌};
+ghost use Rattle.std.specs.Prelude.{◌≡◌, ◌^◌, true, false, pos, ◌*ℤ◌, Decides};
 ghost use Rattle.motion.specs.Course.{IsWithin};
 ghost use Rattle.gate.specs.Gates.{fresh, latch, halted_motion, gate_halted_at, with_command_error, with_events, with_slip, with_motion};
 ghost use Rattle.gate.specs.Events.{keep};
 ghost use Rattle.gate.specs.Sound.{IsSound};
 
-use crate::breakpoint::{BreakMode, Breakpoint};
 use crate::clock::Clock;
 use crate::events::Events;
-use crate::limits::Detectors;
-use crate::movement::Motion;
-use crate::powers::Powers;
 use crate::profile::Profile;
 use motion::course::MICROSTEP;
 use wave::phases::MotorKind;
+
+// The motor powers, from 0 to 32,767.
+#[derive(Clone, Copy, PartialEq, Eq, Debug)]
+pub struct Powers {
+    pub buffered: u16,
+    pub active: u16,
+}
+
+// How a gate moves.
+#[derive(Clone, Copy, PartialEq, Eq, Debug)]
+pub struct Motion {
+    // the target position, in 1/65,536 microstep
+    pub target: i64,
+    // in 1/65,536 microstep a cycle
+    pub velocity: i32,
+    pub halted: bool,
+    // at rest when the last cycle ended
+    pub rested: bool,
+}
+
+// Whether each limit switch can trip.
+#[derive(Clone, Copy, PartialEq, Eq, Debug)]
+pub struct Detectors {
+    pub positive: bool,
+    pub negative: bool,
+}
+
+// What a breakpoint waits for.
+#[derive(Clone, Copy, PartialEq, Eq, Debug)]
+pub enum BreakMode {
+    Off,
+    Time,
+    TargetAbove,
+    TargetBelow,
+    ActualAbove,
+    ActualBelow,
+    Complete,
+    External,
+}
+
+#[derive(Clone, Copy, PartialEq, Eq, Debug)]
+pub struct Breakpoint {
+    pub mode: BreakMode,
+    // a time, or a position in two's complement; it stays while the mode is off
+    pub point: u32,
+    // whether a breakpoint that is met latches
+    pub auto: bool,
+}
 
 /// A gate is one axis of a board: a hopper gate and the stepping motor that moves it. This is all that is known of it; what holds the
 /// record keeps its registers in their ranges.
@@ -135,5 +179,12 @@ impl Gate {
     {
         self.events.keep(word);
         self.slip = false;
+    }
+
+    /// Whether two records are equal in every field: the derived `==` says which test it makes, and this that the test decides equality.
+    pub fn same(&self, other: &Gate) -> bool
+        ensures { Decides result (self.now ≡ other.now) }
+    {
+        *self == *other
     }
 }

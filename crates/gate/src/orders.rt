@@ -7,8 +7,7 @@ ghost use Rattle.gate.specs.Orders.{order_load, word_load, long_load};
 ghost use Rattle.gate.specs.Laws.{SameAnswersBut, load_sees};
 ghost use Rattle.gate.specs.Sound.{IsSound};
 
-use crate::breakpoint::BreakMode;
-use crate::gate::Gate;
+use crate::gate::{BreakMode, Gate};
 use crate::load::Load;
 use crate::profile::ProfileMode;
 use wave::phases::MotorKind;

@@ -1,5 +1,5 @@
 use crate::drive::{BOTH, follows, seen, sent};
-use gate::breakpoint::BreakMode;
+use gate::gate::BreakMode;
 use gate::inputs::Inputs;
 use gate::orders::{LongOrder, Order, WordOrder};
 use gate::profile::ProfileMode;

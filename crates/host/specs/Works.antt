@@ -6,7 +6,7 @@ use Rattle.stage.specs.declared.Stage.{Ghosts}
 use Rattle.motion.specs.Course.{microsteps}
 use Rattle.gate.specs.declared.gate.Gate.{Gate}
 use Rattle.gate.specs.declared.inputs.Inputs.{Inputs}
-use Rattle.gate.specs.declared.breakpoint.BreakMode.TheVariants.{Time}
+use Rattle.gate.specs.declared.gate.BreakMode.TheVariants.{Time}
 use Rattle.gate.specs.declared.orders.Order.TheVariants.{Break}
 use Rattle.gate.specs.declared.orders.WordOrder.TheVariants.{Power, Mask}
 use Rattle.gate.specs.declared.orders.LongOrder.TheVariants.{Destination, Velocity, Acceleration, Point}
@@ -17,8 +17,8 @@ use Rattle.board.specs.declared.command.Whose.{Whose}
 use Rattle.board.specs.declared.command.Whose.TheVariants.{First, Second}
 use Rattle.board.specs.declared.refusal.Refusal.{Refusal}
 use Rattle.board.specs.Own.{answer_done}
-use Rattle.board.specs.Acts.{act_cycle, act_take, gate_of, state_of}
-use Rattle.board.specs.Runs.{Performs}
+use Rattle.board.specs.Acts.{act_cycle, act_take, gate_of}
+use Rattle.board.specs.Runs.{Performs, board_state}
 use Rattle.desk.specs.Closes.{answer_of_number, ClosesSlip}
 use Rattle.script.specs.declared.line.Packet.{Packet}
 use Rattle.script.specs.declared.line.Packet.TheVariants as packet
@@ -129,10 +129,10 @@ module _ {S : Type 0} (m : Ghosts S) where
 
   -- a cycle, in which each encoder follows its motor; each gate's record after it is noted
   pub record CyclesOnce (s t : Bench) : Type 0 where
-    pub did : Performs m (act_cycle (following_inputs (gate_of (state_of s.board.table) 0))
-        (following_inputs (gate_of (state_of s.board.table) 1))) answer_done s.board t.board
-    pub left : t.left ≡ with_note (gate_of (state_of t.board.table) 0) s.left
-    pub right : t.right ≡ with_note (gate_of (state_of t.board.table) 1) s.right
+    pub did : Performs m (act_cycle (following_inputs (gate_of (board_state s.board) 0))
+        (following_inputs (gate_of (board_state s.board) 1))) answer_done s.board t.board
+    pub left : t.left ≡ with_note (gate_of (board_state t.board) 0) s.left
+    pub right : t.right ≡ with_note (gate_of (board_state t.board) 1) s.right
 
   -- so many cycles
   unfoldable pub RunsFor : ℕ → Bench → Bench → Type 0

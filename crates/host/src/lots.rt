@@ -2,15 +2,16 @@ ghost use Rattle.std.specs.Prelude.{◌≡◌, ◌<◌, ◌-◌, true, ℕ, Resu
 ghost use Rattle.std.specs.Option.{option_copied};
 ghost use Rattle.stage.specs.Pairs.{is_gate};
 ghost use Rattle.gate.specs.Sound.{IsSound};
-ghost use Rattle.board.specs.Acts.{gate_of, state_of};
+ghost use Rattle.board.specs.Acts.{gate_of};
 ghost use Rattle.host.specs.Works.{notes_of, no_notes, with_note, lot_beside, following_inputs, bench_of, new_bench, NotesPackets, MakesReady, LoadsLot, ServesSlip, RunsFor, IfSomething, WorksLot, WorksAll};
+ghost use Rattle.desk.specs.Desks.{board_of};
+ghost use Rattle.board.specs.Runs.{board_state};
 
 use crate::lot::{CYCLES, Lot, Outcome};
 use board::command::{Command, Whose};
 use board::refusal::Refusal;
 use desk::desk::Desk;
-use gate::breakpoint::BreakMode;
-use gate::gate::Gate;
+use gate::gate::{BreakMode, Gate};
 use gate::inputs::Inputs;
 use gate::orders::{LongOrder, Order, WordOrder};
 use motion::course::microsteps;
@@ -49,8 +50,8 @@ impl Work {
         packets: &[Packet],
     ) -> Result<(), AllocError>
         ensures { OnOk result
-            (NotesPackets S.Stage packets.now (notes_of self.old) desk.old.board (notes_of self.new)
-            desk.new.board) }
+            (NotesPackets S.Stage packets.now (notes_of self.old) (board_of desk.old) (notes_of self.new)
+            (board_of desk.new)) }
     {
         for packet in packets {
             self.answers.push(play_packet(desk, *packet))?;
@@ -66,8 +67,8 @@ impl Work {
         mask: u16,
     ) -> Result<(), AllocError>
         ensures { OnOk result
-            (MakesReady S.Stage power mask (notes_of self.old) desk.old.board (notes_of self.new)
-            desk.new.board) }
+            (MakesReady S.Stage power mask (notes_of self.old) (board_of desk.old) (notes_of self.new)
+            (board_of desk.new)) }
     {
         let packets = [
             Packet::Plain(Command::Status(self.whose)),
@@ -80,8 +81,8 @@ impl Work {
     // Loads a lot, to be latched by a breakpoint at its time.
     fn order<S: Stage + Drop>(&mut self, desk: &mut Desk<S>, lot: Lot) -> Result<(), AllocError>
         ensures { OnOk result
-            (LoadsLot S.Stage lot (notes_of self.old) desk.old.board (notes_of self.new)
-            desk.new.board) }
+            (LoadsLot S.Stage lot (notes_of self.old) (board_of desk.old) (notes_of self.new)
+            (board_of desk.new)) }
     {
         self.outcomes.push(Outcome::new(lot))?;
         let destination = lot.destination.cast_unsigned();
@@ -103,8 +104,8 @@ impl Work {
         lot: Option<Lot>,
     ) -> Result<(), AllocError>
         ensures { OnOk result
-            (IfSomething S.Stage (LoadsLot S.Stage) lot (notes_of self.old) desk.old.board
-            (notes_of self.new) desk.new.board) }
+            (IfSomething S.Stage (LoadsLot S.Stage) lot (notes_of self.old) (board_of desk.old)
+            (notes_of self.new) (board_of desk.new)) }
     {
         match lot {
             Some(lot) => self.order(desk, lot),
@@ -126,8 +127,8 @@ impl Work {
     fn serve<S: Stage + Drop>(&mut self, desk: &mut Desk<S>) -> Result<(), AllocError>
         ensures { OnOk result
             ((taken : Result ℕ Refusal) ×
-            ServesSlip S.Stage taken (notes_of self.old) desk.old.board (notes_of self.new)
-            desk.new.board) }
+            ServesSlip S.Stage taken (notes_of self.old) (board_of desk.old) (notes_of self.new)
+            (board_of desk.new)) }
     {
         let taken = desk.take();
         self.answers.push(taken.map(Reply::Slip))?;
@@ -143,7 +144,7 @@ impl Work {
 fn record<S: Stage + Drop>(desk: &Desk<S>, gate: u8) -> Gate
     requires { is_gate gate ≡ true }
     ensures sound { IsSound result }
-    ensures is { result ≡ gate_of (state_of desk.now.board.table) (gate - 1) }
+    ensures is { result ≡ gate_of (board_state (board_of desk.now)) (gate - 1) }
 {
     desk.board().record(gate).unwrap()
 }
@@ -162,8 +163,8 @@ fn follow(gate: Gate) -> Inputs
 
 // Runs the cycles of a lot, and notes what both gates do.
 fn run<S: Stage + Drop>(desk: &mut Desk<S>, left: &mut Work, right: &mut Work)
-    ensures { RunsFor S.Stage 160 (bench_of S.Stage desk.old.board left.old right.old)
-        (bench_of S.Stage desk.new.board left.new right.new) }
+    ensures { RunsFor S.Stage 160 (bench_of S.Stage (board_of desk.old) left.old right.old)
+        (bench_of S.Stage (board_of desk.new) left.new right.new) }
 {
     for _cycle in 0..CYCLES {
         let (one, two) = (follow(record(desk, 1)), follow(record(desk, 2)));
@@ -182,8 +183,8 @@ fn work_lot<S: Stage + Drop>(
     beside: Option<Lot>,
 ) -> Result<(), AllocError>
     ensures { OnOk result
-        (WorksLot S.Stage lot beside (bench_of S.Stage desk.old.board left.old right.old)
-        (bench_of S.Stage desk.new.board left.new right.new)) }
+        (WorksLot S.Stage lot beside (bench_of S.Stage (board_of desk.old) left.old right.old)
+        (bench_of S.Stage (board_of desk.new) left.new right.new)) }
 {
     left.order(desk, lot)?;
     right.order_if(desk, beside)?;
@@ -210,7 +211,7 @@ pub fn work_lots<S: Stage + Drop, const N: usize>(
 ) -> Result<(Work, Work), AllocError>
     ensures { IfOk result
         (λ works. WorksAll S.Stage left.now (option_copied right.entry)
-        (new_bench S.Stage desk.old.board) (bench_of S.Stage desk.new.board works.0 works.1)) }
+        (new_bench S.Stage (board_of desk.old)) (bench_of S.Stage (board_of desk.new) works.0 works.1)) }
 {
     let mut one = Work::new(heap, Whose::First);
     let mut two = Work::new(heap, Whose::Second);

@@ -6,18 +6,18 @@ use Rattle.stage.specs.declared.Stage.{Ghosts}
 use Rattle.stage.specs.Pairs.{Pair}
 use Rattle.wave.specs.declared.phases.MotorKind.{MotorKind}
 use Rattle.wave.specs.declared.phases.MotorKind.TheVariants.{TwoPhase, ThreePhase}
-use Rattle.gate.specs.declared.breakpoint.BreakMode.{BreakMode}
-use Rattle.gate.specs.declared.breakpoint.BreakMode.TheVariants as break
-use Rattle.gate.specs.declared.breakpoint.Breakpoint.{Breakpoint}
+use Rattle.gate.specs.declared.gate.BreakMode.{BreakMode}
+use Rattle.gate.specs.declared.gate.BreakMode.TheVariants as break
+use Rattle.gate.specs.declared.gate.Breakpoint.{Breakpoint}
 use Rattle.gate.specs.declared.gate.Gate.{Gate}
-use Rattle.gate.specs.declared.movement.Motion.{Motion}
+use Rattle.gate.specs.declared.gate.Motion.{Motion}
 use Rattle.gate.specs.declared.profile.Profile.{Profile}
 use Rattle.gate.specs.declared.profile.ProfileMode.{ProfileMode}
 use Rattle.gate.specs.declared.profile.ProfileMode.TheVariants as mode
 use Rattle.gate.specs.Events.{events_word}
 use Rattle.board.specs.declared.board.Board.{Board}
-use Rattle.board.specs.Acts.{state_of}
 use Rattle.replay.specs.Numbers.{two_bytes, four_bytes, eight_bytes}
+use Rattle.board.specs.Runs.{board_state, stage_of}
 
 abbrev pub mode_byte : ProfileMode → ℕ
 mode_byte mode.Trapezoidal = 0
@@ -70,5 +70,5 @@ record_bytes g =
 -- the byte that says a look, the pairs, the record of gate 1, that of gate 2
 abbrev pub look_bytes : {S : Type 0} (m : Ghosts S) → Board S m → List ℕ
 look_bytes m b =
-    0x13 ∷ (pair_bytes (m.pairs b.stage).one ++ (pair_bytes (m.pairs b.stage).two
-    ++ (record_bytes (state_of b.table).one ++ record_bytes (state_of b.table).two)))
+    0x13 ∷ (pair_bytes (m.pairs (stage_of b)).one ++ (pair_bytes (m.pairs (stage_of b)).two
+    ++ (record_bytes (board_state b).one ++ record_bytes (board_state b).two)))

@@ -1,6 +1,7 @@
 ghost use Rattle.std.specs.Prelude.{[]};
 ghost use Rattle.board.specs.Runs.{ReachedBy};
 ghost use Rattle.replay.specs.Replays.{PlaysStepInto, ReplaysInto};
+ghost use Rattle.desk.specs.Desks.{board_of};
 
 use crate::entry::{Entry, Step};
 use crate::fault::Fault;
@@ -33,8 +34,9 @@ fn turn<S: Stage + Drop, R: Stage + Drop>(
     entry: Entry,
     out: &mut Out<'_>,
 ) -> Result<(), Fault>
-    ensures { PlaysStepInto S.Stage R.Stage Side.A entry own.old.board own.new.board other.old.board
-        other.new.board out.old out.new result }
+    ensures { PlaysStepInto S.Stage R.Stage Side.A entry (board_of own.old) (board_of own.new)
+        (board_of other.old)
+        (board_of other.new) out.old out.new result }
 {
     match play(own, other, entry) {
         Ok(answer) => answer.put(own.board(), out),
@@ -56,8 +58,8 @@ impl<S: Stage + Drop, R: Stage + Drop> Boards<S, R> {
 
     // Plays a step at its board and writes its answer.
     fn turn(&mut self, step: Step, out: &mut Out<'_>) -> Result<(), Fault>
-        ensures { PlaysStepInto S.Stage R.Stage step.side step.entry self.old.a.board
-            self.new.a.board self.old.b.board self.new.b.board out.old out.new result }
+        ensures { PlaysStepInto S.Stage R.Stage step.side step.entry (board_of self.old.a)
+            (board_of self.new.a) (board_of self.old.b) (board_of self.new.b) out.old out.new result }
     {
         match step.side {
             Side::A => turn(&mut self.a, &mut self.b, step.entry, out),
@@ -67,8 +69,8 @@ impl<S: Stage + Drop, R: Stage + Drop> Boards<S, R> {
 
     /// Plays the entries of a list, one after another, and writes their answers.
     pub fn play(&mut self, list: &[u8], out: &mut Out<'_>) -> Result<(), Fault>
-        ensures { ReplaysInto S.Stage R.Stage list.now self.old.a.board self.old.b.board
-            self.new.a.board self.new.b.board out.old out.new result }
+        ensures { ReplaysInto S.Stage R.Stage list.now (board_of self.old.a) (board_of self.old.b)
+            (board_of self.new.a) (board_of self.new.b) out.old out.new result }
     {
         let mut rest = list;
         while let [first, operands @ ..] = rest {

@@ -1,4 +1,5 @@
 ghost use Rattle.replay.specs.Plays.{PlaysEntry};
+ghost use Rattle.desk.specs.Desks.{board_of};
 
 use crate::answer::Answer;
 use crate::entry::Entry;
@@ -14,7 +15,7 @@ pub fn play<S: Stage + Drop, R: Stage + Drop>(
     entry: Entry,
 ) -> Result<Answer, Refusal>
     ensures { PlaysEntry S.Stage R.Stage entry result
-        own.old.board own.new.board other.old.board other.new.board }
+        (board_of own.old) (board_of own.new) (board_of other.old) (board_of other.new) }
 {
     match entry {
         Entry::Command(code) => own.command(code)?,

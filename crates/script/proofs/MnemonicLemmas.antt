@@ -3,7 +3,7 @@ use Rattle.std.proofs.Common.{◌≡◌, ◌∙◌, ℕ, true, false, List, [], 
 use Rattle.std.specs.List.{find}
 use Rattle.std.specs.Str.{bytes_eq}
 use Rattle.wave.specs.declared.phases.MotorKind.TheVariants as motor
-use Rattle.gate.specs.declared.breakpoint.BreakMode.TheVariants as break
+use Rattle.gate.specs.declared.gate.BreakMode.TheVariants as break
 use Rattle.gate.specs.declared.profile.ProfileMode.TheVariants as mode
 use Rattle.gate.specs.declared.orders.Order.TheVariants.{Mode, Stop, Update, Auto, Break, Motor}
 use Rattle.gate.specs.declared.orders.WordOrder.TheVariants as word

@@ -1,7 +1,7 @@
 -- The mnemonics of the commands.
 use Rattle.std.specs.Prelude.{◌≡◌, ℕ, true, false, List, Some, None, codes, Option, ◌≢◌}
 use Rattle.wave.specs.declared.phases.MotorKind.TheVariants as motor
-use Rattle.gate.specs.declared.breakpoint.BreakMode.TheVariants as break
+use Rattle.gate.specs.declared.gate.BreakMode.TheVariants as break
 use Rattle.gate.specs.declared.profile.ProfileMode.TheVariants as mode
 use Rattle.gate.specs.declared.orders.Order.TheVariants.{Mode, Stop, Update, Auto, Break, Motor}
 use Rattle.gate.specs.declared.orders.WordOrder.TheVariants as word

@@ -15,7 +15,7 @@ use Rattle.board.specs.declared.refusal.Refusal.{Refusal}
 use Rattle.board.specs.Commands.{code_table}
 use Rattle.board.specs.Own.{Answer, answer_done, answer_refused, answer_word, answer_words, answer_slip, join}
 use Rattle.board.specs.Acts.{act_command, act_write, act_read, act_cycle, act_reset, act_take}
-use Rattle.board.specs.Runs.{Performs, BoardUnchanged}
+use Rattle.board.specs.Runs.{Performs, BoardUnchanged, stage_of}
 use Rattle.desk.specs.Closes.{ClosesSlip}
 use Rattle.desk.specs.Runs.{RunsCycles}
 use Rattle.script.specs.declared.line.Line.{Line}
@@ -66,11 +66,11 @@ Answers P (Err e) = P (Err e)
 module _ {S : Type 0} (m : Ghosts S) where
   -- the pairs that the stage shows
   abbrev pub Shows : Board S m → Reply → Type 0
-  Shows b r = r ≡ Pairs (pair_of (m.pairs b.stage) 1) (pair_of (m.pairs b.stage) 2)
+  Shows b r = r ≡ Pairs (pair_of (m.pairs (stage_of b)) 1) (pair_of (m.pairs (stage_of b)) 2)
 
   -- what the stage has on its wires, by `look`; it stands for the pairs
   abbrev pub ShowsWires : (S → Codes) → Board S m → Reply → Type 0
-  ShowsWires look b r = (r ≡ Wires (look b.stage)) × StandsFor (m.pairs b.stage) (look b.stage)
+  ShowsWires look b r = (r ≡ Wires (look (stage_of b))) × StandsFor (m.pairs (stage_of b)) (look (stage_of b))
 
   -- the packet of a command that gives k words, by the code n of the command; they stand for a value
   abbrev pub GivesWords : ℕ → (List ℕ → ℤ) → ℕ → Result Reply Refusal → Board S m → Board S m → Type 0

@@ -10,13 +10,14 @@ use Rattle.script.specs.declared.line.Line.{Line}
 use Rattle.script.specs.declared.line.Line.TheVariants as line
 use Rattle.script.specs.declared.reply.Reply.{Reply}
 use Rattle.script.specs.Plays.{PlaysLine}
+use Rattle.desk.specs.Desks.{board_of}
 
 -- two makes of stage, and what a stage of each has on its wires
 module _ {S R : Type 0} (m : Ghosts S) (n : Ghosts R) (look : S → Codes) (see : R → Codes) where
   -- the line is played on one board, and the other stays
   abbrev pub PlaysAt : Side → Line → Result (Option Reply) Refusal → Boards S R m n → Boards S R m n → Type 0
-  PlaysAt A l r x y = PlaysLine m look l r x.a.board y.a.board × (y.b ≡ x.b) × (y.current ≡ x.current)
-  PlaysAt B l r x y = PlaysLine n see l r x.b.board y.b.board × (y.a ≡ x.a) × (y.current ≡ x.current)
+  PlaysAt A l r x y = PlaysLine m look l r (board_of x.a) (board_of y.a) × (y.b ≡ x.b) × (y.current ≡ x.current)
+  PlaysAt B l r x y = PlaysLine n see l r (board_of x.b) (board_of y.b) × (y.a ≡ x.a) × (y.current ≡ x.current)
 
   -- a line that names a board only turns to it
   abbrev pub TurnsTo : Side → Result (Option Reply) Refusal → Boards S R m n → Boards S R m n → Type 0

@@ -1,7 +1,7 @@
 ghost use Rattle.script.specs.Mnemonics.{NamesCommand};
 
 use board::command::{Command, Whose};
-use gate::breakpoint::BreakMode;
+use gate::gate::BreakMode;
 use gate::orders::{LongOrder, Order, WordOrder};
 use gate::profile::ProfileMode;
 use gate::queries::Query;

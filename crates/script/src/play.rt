@@ -1,6 +1,7 @@
 ghost use Rattle.std.specs.Prelude.{◌≡◌, ℕ, Some};
 ghost use Rattle.board.specs.Commands.{code_table};
 ghost use Rattle.script.specs.Plays.{query_value, Shows, PlaysPlain, PlaysPacket, PlaysLine};
+ghost use Rattle.desk.specs.Desks.{board_of};
 
 use crate::line::{Line, Packet};
 use crate::packet::{fetch, send};
@@ -29,7 +30,7 @@ fn signed(query: Query, bits: u32) -> i64
 // The packet of a command that takes no word.
 fn plain<S: Stage + Drop>(desk: &mut Desk<S>, command: Command) -> Result<Reply, Refusal>
     ensures { (n : ℕ) × (code_table n ≡ Some command) ×
-        PlaysPlain S.Stage command n result desk.old.board desk.new.board }
+        PlaysPlain S.Stage command n result (board_of desk.old) (board_of desk.new) }
 {
     let code = u8::from(command);
     match command {
@@ -51,7 +52,8 @@ fn plain<S: Stage + Drop>(desk: &mut Desk<S>, command: Command) -> Result<Reply,
 
 /// The whole packet of a command, up to its end or its first refusal.
 pub fn play_packet<S: Stage + Drop>(desk: &mut Desk<S>, packet: Packet) -> Result<Reply, Refusal>
-    ensures { (n : ℕ) × PlaysPacket S.Stage packet n result desk.old.board desk.new.board }
+    ensures { (n : ℕ) × PlaysPacket S.Stage packet n result
+        (board_of desk.old) (board_of desk.new) }
 {
     match packet {
         Packet::Plain(command) => return plain(desk, command),
@@ -66,7 +68,7 @@ pub fn play_packet<S: Stage + Drop>(desk: &mut Desk<S>, packet: Packet) -> Resul
 
 /// Both pairs, as the stage shows them.
 pub fn pairs<S: Stage + Drop>(desk: &Desk<S>) -> Reply
-    ensures { Shows S.Stage desk.now.board result }
+    ensures { Shows S.Stage (board_of desk.now) result }
 {
     let board = desk.board();
     Reply::Pairs(board.pair(1), board.pair(2))
@@ -74,7 +76,7 @@ pub fn pairs<S: Stage + Drop>(desk: &Desk<S>) -> Reply
 
 /// Plays a line on a board; no reply comes to a line that asks nothing of it.
 pub fn play<S: Wires + Drop>(desk: &mut Desk<S>, line: Line) -> Result<Option<Reply>, Refusal>
-    ensures { PlaysLine S.Stage S.codes line result desk.old.board desk.new.board }
+    ensures { PlaysLine S.Stage S.codes line result (board_of desk.old) (board_of desk.new) }
 {
     Ok(Some(match line {
         Line::Nothing | Line::Board(_) => return Ok(None),

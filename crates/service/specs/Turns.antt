@@ -5,15 +5,15 @@ use Rattle.board.specs.declared.board.Board.{Board}
 use Rattle.board.specs.declared.refusal.Refusal.{Refusal}
 use Rattle.board.specs.declared.slip.Slip.{Slip}
 use Rattle.board.specs.Own.{answer_done, answer_refused, answer_slip}
-use Rattle.board.specs.Acts.{State, Act, act_take, act_close, gate_of, lendable, state_of}
-use Rattle.board.specs.Runs.{Performs, BoardUnchanged}
+use Rattle.board.specs.Acts.{State, Act, act_take, act_close, gate_of, lendable}
+use Rattle.board.specs.Runs.{Performs, BoardUnchanged, board_state}
 use Rattle.board.specs.Sequences.{PerformsAll, state_from}
 use Rattle.service.specs.declared.turns.Served.{Served}
 use Rattle.service.specs.declared.turns.Served.TheVariants.{Neither, One, Both}
 
 -- the slip in hand is out at the board
 abbrev pub IsInHand : {S : Type 0} {m : Ghosts S} → Board S m → Option Slip → Type 0
-IsInHand b (Some s) = (gate_of (state_of b.table) s.gate).slip ≡ true
+IsInHand b (Some s) = (gate_of (board_state b) s.gate).slip ≡ true
 IsInHand b None = Unit {0}
 
 -- gate k's slip is taken, and closed with a word, after other acts
@@ -38,10 +38,10 @@ module _ {S : Type 0} (m : Ghosts S) where
   -- no gate waits, and a refused take changes nothing; one waits and has its turn with the first word, and none waits then, so that a second
   -- take changes nothing; or two have a turn, one after the other, each with its word
   abbrev pub ServesInTurn : ℕ → ℕ → Served → Board S m → Board S m → Type 0
-  ServesInTurn v w Neither b d = (lendable (state_of b.table) ≡ None) × BoardUnchanged m b d × PerformsAll m (act_take ∷ []) b d
+  ServesInTurn v w Neither b d = (lendable (board_state b) ≡ None) × BoardUnchanged m b d × PerformsAll m (act_take ∷ []) b d
   ServesInTurn v w One b d =
-      (k : ℕ) × (Some k ≡ lendable (state_of b.table)) × (lendable (state_after_service (state_of b.table) k v) ≡ None)
-      × (state_of d.table ≡ state_after_service (state_of b.table) k v) × PerformsAll m (act_take ∷ service_acts k v []) b d
+      (k : ℕ) × (Some k ≡ lendable (board_state b)) × (lendable (state_after_service (board_state b) k v) ≡ None)
+      × (board_state d ≡ state_after_service (board_state b) k v) × PerformsAll m (act_take ∷ service_acts k v []) b d
   ServesInTurn v w Both b d =
-      (k : ℕ) × (j : ℕ) × (Some k ≡ lendable (state_of b.table)) × (Some j ≡ lendable (state_after_service (state_of b.table) k v))
+      (k : ℕ) × (j : ℕ) × (Some k ≡ lendable (board_state b)) × (Some j ≡ lendable (state_after_service (board_state b) k v))
       × PerformsAll m (service_acts j w (service_acts k v [])) b d

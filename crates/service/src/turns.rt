@@ -1,6 +1,7 @@
 ghost use Rattle.std.specs.Prelude.{◌≡◌, true, false, is_some, None};
-ghost use Rattle.board.specs.Acts.{lendable, state_of};
+ghost use Rattle.board.specs.Acts.{lendable};
 ghost use Rattle.service.specs.Turns.{IsInHand, ServesInTurn, Picks, Puts};
+ghost use Rattle.board.specs.Runs.{board_state, stage_of};
 
 use board::board::Board;
 use board::slip::Slip;
@@ -21,7 +22,7 @@ fn pick<S: Stage + Drop>(board: &mut Board<S>, hand: &mut Option<Slip>) -> bool
     ensures held { result ≡ is_some hand.new }
     ensures out { IsInHand board.new hand.new }
     ensures picked { Picks S.Stage hand.new board.old board.new }
-    ensures none { result ≡ false → lendable (state_of board.old.table) ≡ None }
+    ensures none { result ≡ false → lendable (board_state board.old) ≡ None }
 {
     let Ok(slip) = board.take() else {
         return false;
@@ -43,9 +44,9 @@ fn put<S: Stage + Drop>(board: &mut Board<S>, hand: &mut Option<Slip>, word: u16
 
 /// Serves two calls, one slip after the other, each with a word of its own.
 pub fn serve_in_turn<S: Stage + Drop>(board: &mut Board<S>, first: u16, second: u16) -> Served
-    ensures stage { board.new.stage ≡ board.old.stage }
-    ensures shows { S.Stage.pairs board.new.stage ≡ S.Stage.pairs board.old.stage }
-    ensures neither { result ≡ Served.Neither → lendable (state_of board.old.table) ≡ None }
+    ensures stage { stage_of board.new ≡ stage_of board.old }
+    ensures shows { S.Stage.pairs (stage_of board.new) ≡ S.Stage.pairs (stage_of board.old) }
+    ensures neither { result ≡ Served.Neither → lendable (board_state board.old) ≡ None }
     ensures served { ServesInTurn S.Stage first second result board.old board.new }
 {
     let mut hand = None;

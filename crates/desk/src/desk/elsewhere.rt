@@ -1,7 +1,6 @@
 ghost use Rattle.desk.specs.Closes.{ClosesAt, ClosesElsewhere};
 
-use crate::desk::Desk;
-use crate::desk::slips::put;
+use crate::desk::{Desk, put};
 use board::board::Board;
 use board::refusal::Refusal;
 use board::slip::Slip;
