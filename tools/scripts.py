@@ -3,8 +3,8 @@
 are reported and the status. Lines are told apart here by docs/SCRIPT.md alone.
 
     python3 tools/scripts.py [SCRIPTS [SEED]]      after one ./run, which builds the console
-    python3 tools/scripts.py FILE                  prints what is to be answered to one script
-    python3 tools/scripts.py crates/console_faults/data/faults.txt > crates/console_faults/stdout
+    python3 tools/scripts.py FILE [A,B]            prints what is to be answered to one script, over dac,pwm or these stages
+    python3 tools/scripts.py crates/console_faults/data/faults.txt pwm,dac > crates/console_faults/stdout
 """
 import os
 import random
@@ -108,9 +108,9 @@ def script(rng):
     return lines
 
 
-def expected(lines):
+def expected(lines, stages="dac,pwm"):
     """What is to be answered, and which lines cannot be read."""
-    boards, at, answers, faults = {"a": Board(STEPS["dac"]), "b": Board(STEPS["pwm"])}, "a", [], []
+    boards, at, answers, faults = dict(zip("ab", (Board(STEPS[make]) for make in stages.split(",")))), "a", [], []
     for n, line in enumerate(lines, 1):
         words = line.split("#")[0].split()
         if not words:
@@ -129,7 +129,7 @@ def expected(lines):
 
 def main():
     if sys.argv[1:] and os.path.exists(sys.argv[1]):
-        print("\n".join(expected(open(sys.argv[1]).read().splitlines())[0]))
+        print("\n".join(expected(open(sys.argv[1]).read().splitlines(), *sys.argv[2:3])[0]))
         return 0
     count, seed = [int(word) for word in sys.argv[1:3]] + [300, 1][len(sys.argv) - 1 :]
     rng = random.Random(seed)

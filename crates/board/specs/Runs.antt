@@ -53,7 +53,10 @@ quantized_pairs step p = record { one = quantized_pair step p.one; two = quantiz
 abbrev pub pair_at : Pairs → ℕ → Pair
 pair_at p k = cond (k == 0) p.one p.two
 
--- a board's state and its stage, for who sees no field of a board
+-- a slip's gate, 0 for gate 1 and 1 for gate 2, and a board's state and stage, for who sees no field of a slip or a board
+abbrev pub slip_gate : Slip → ℕ
+slip_gate s = s.gate
+
 abbrev pub board_state : {S : Type 0} {m : Ghosts S} → Board S m → State
 board_state b = state_of b.table
 

@@ -4,11 +4,11 @@ use Rattle.stage.specs.declared.Stage.{Ghosts}
 use Rattle.board.specs.declared.board.Board.{Board}
 use Rattle.board.specs.declared.slip.Slip.{Slip}
 use Rattle.board.specs.Acts.{State}
-use Rattle.board.specs.Runs.{board_state}
+use Rattle.board.specs.Runs.{board_state, slip_gate}
 
 -- a slip of gate k is kept just while that gate's slip is out
 abbrev pub is_kept_while_out : ℕ → Option Slip → Bool → Bool
-is_kept_while_out k (Some s) out = s.gate == k && out
+is_kept_while_out k (Some s) out = slip_gate s == k && out
 is_kept_while_out k None out = not out
 
 abbrev pub state_keeps : State → Option Slip → Option Slip → Bool

@@ -1,7 +1,7 @@
 ghost use Rattle.std.specs.Prelude.{◌≡◌, true, Some, None};
 ghost use Rattle.board.specs.Own.{answer_done};
 ghost use Rattle.board.specs.Acts.{act_close, gate_of};
-ghost use Rattle.board.specs.Runs.{Performs, board_state};
+ghost use Rattle.board.specs.Runs.{Performs, board_state, slip_gate};
 ghost use Rattle.desk.specs.Keeps.{keeps};
 
 use board::board::Board;
@@ -34,8 +34,8 @@ pub(crate) fn put(place: &mut Option<Slip>, slip: Slip)
 
 // Closes a slip at a board where its gate's slip is out.
 fn close_out<S: Stage + Drop>(board: &mut Board<S>, slip: Slip, word: u16)
-    requires { (gate_of (board_state board.old) slip.gate).slip ≡ true }
-    ensures { Performs S.Stage (act_close slip.gate word) answer_done board.old board.new }
+    requires { (gate_of (board_state board.old) (slip_gate slip)).slip ≡ true }
+    ensures { Performs S.Stage (act_close (slip_gate slip) word) answer_done board.old board.new }
 {
     board.close(slip, word).unwrap();
 }

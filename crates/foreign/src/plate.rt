@@ -7,8 +7,8 @@ ghost use Rattle.std.proofs.Common.{rules};
 use stage::Stage;
 use stage::quantize::quantize;
 
-/// A stage that keeps its numbers as they are shown, in multiples of its step: of N, but at least of 1 and at most of 128. It is
-/// no form of the crate `stage`, since this crate is there to try a make that implements `Stage` itself.
+/// A stage that keeps its numbers as they are shown, in multiples of its step: of N, but at least of 1 and at most of 128. It implements
+/// `Stage` itself, and not by a form of the crate `stage`.
 #[derive(Clone, Copy)]
 pub struct Plate<const N: u8> {
     one: (i16, i16),

@@ -104,8 +104,7 @@ impl Gate {
         }
     }
 
-    // Runs the order if the word fits it, and else changes nothing. A function for words and longer numbers alike would only move these
-    // matches into impls of a trait.
+    // Runs the order if the word fits it, and else changes nothing.
     fn try_word(&mut self, order: WordOrder, word: u16) -> Result<(), OutOfRange>
         ensures answer { result ≡ word_answer order word }
         ensures is { self.new ≡

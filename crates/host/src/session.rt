@@ -51,7 +51,6 @@ pub fn play_script<S: Wires + Drop, R: Wires + Drop>(
         (λ faults. PlaysScript S.Stage R.Stage S.codes R.codes (lines script.now) faults boards.old
         boards.new) }
 {
-    // Counted in the loop: a fold that may fail would hide the printing of a line in a closure.
     let mut faults = 0usize;
     for (index, line) in script.lines().enumerate() {
         if !play_line(rt, boards, index + 1, line)? {

@@ -10,8 +10,7 @@ const SPAN: u32 = 1 << 29;
 
 const HALVINGS: u32 = 29;
 
-/// By how much the speed of a gate may change in a cycle. Velocities and positions stay plain numbers: a gate's record holds them so, and a
-/// call would only wrap them and take the answer out again.
+/// By how much the speed of a gate may change in a cycle, in 1/65,536 microstep a cycle.
 #[derive(Clone, Copy, PartialEq, Eq, Debug)]
 pub struct Rate {
     pub size: u32,

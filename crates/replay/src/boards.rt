@@ -47,8 +47,8 @@ fn turn<S: Stage + Drop, R: Stage + Drop>(
 impl<S: Stage + Drop, R: Stage + Drop> Boards<S, R> {
     /// Two new boards.
     pub fn new(one: S, two: R) -> Boards<S, R>
-        ensures a { ReachedBy S.Stage [] result.a.board }
-        ensures b { ReachedBy R.Stage [] result.b.board }
+        ensures a { ReachedBy S.Stage [] (board_of result.a) }
+        ensures b { ReachedBy R.Stage [] (board_of result.b) }
     {
         Boards {
             a: Desk::new(one),

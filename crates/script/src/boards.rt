@@ -1,5 +1,6 @@
 ghost use Rattle.std.specs.Prelude.{◌≡◌, []};
 ghost use Rattle.board.specs.Runs.{ReachedBy};
+ghost use Rattle.desk.specs.Desks.{board_of};
 ghost use Rattle.desk.specs.Closes.{ClosesAll};
 ghost use Rattle.desk.specs.declared.side.Side.TheVariants.{A as First};
 ghost use Rattle.script.specs.Sides.{PlaysAt, PlaysOnBoards};
@@ -24,8 +25,8 @@ pub struct Boards<S: Stage + Drop, R: Stage + Drop> {
 impl<S: Stage + Drop, R: Stage + Drop> Boards<S, R> {
     /// Two new boards; lines go to the first.
     pub fn new(a: S, b: R) -> Boards<S, R>
-        ensures a { ReachedBy S.Stage [] result.a.board }
-        ensures b { ReachedBy R.Stage [] result.b.board }
+        ensures a { ReachedBy S.Stage [] (board_of result.a) }
+        ensures b { ReachedBy R.Stage [] (board_of result.b) }
         ensures current { result.current ≡ First }
     {
         Boards {
@@ -37,8 +38,8 @@ impl<S: Stage + Drop, R: Stage + Drop> Boards<S, R> {
 
     /// Closes every slip that is still kept, at its board, with a word that clears nothing.
     pub fn finish(self) -> (Board<S>, Board<R>)
-        ensures a { ClosesAll S.Stage self.a.board result.0 }
-        ensures b { ClosesAll R.Stage self.b.board result.1 }
+        ensures a { ClosesAll S.Stage (board_of self.a) result.0 }
+        ensures b { ClosesAll R.Stage (board_of self.b) result.1 }
     {
         let Boards { a, b, current: _ } = self;
         (a.finish(), b.finish())

@@ -54,7 +54,7 @@ fn code(text: &str) -> Option<u8>
     }
 }
 
-// The bits of a number of one word, and below of two: one function for both would name a constant and a type at each call.
+// The bits of a number of one word, and below of two.
 fn word(text: &str) -> Option<u16>
     ensures { Finds (IsWord text.now) result }
 {
