@@ -1,12 +1,12 @@
 -- Laws of a gate, above the definitions of what is done to it.
-use Rattle.std.specs.Prelude.{◌≡◌, ℕ, ◌≤◌, max, Bool, true, false, not, ◌&&◌, ◌||◌, ◌-ℤ◌, unsigned_abs}
+use Rattle.std.specs.Prelude.{◌≡◌, ℕ, ◌≤◌, max, false, not, ◌&&◌, ◌||◌, ◌-ℤ◌, unsigned_abs, Some, None, Option, ◌≢◌}
 use Rattle.motion.specs.Course.{advanced, counted, crosses, microsteps}
 use Rattle.gate.specs.declared.gate.Gate.{Gate}
 use Rattle.gate.specs.declared.inputs.Inputs.{Inputs}
 use Rattle.gate.specs.declared.load.Load.{Load}
 use Rattle.gate.specs.declared.load.Load.TheVariants as load
 use Rattle.gate.specs.declared.queries.Query.{Query}
-use Rattle.gate.specs.declared.queries.Query.TheVariants.{Position, Velocity, Acceleration, TargetPosition, TargetVelocity, ActualPosition, CycleTime}
+use Rattle.gate.specs.declared.queries.Query.TheVariants.{Position, Velocity, Acceleration}
 use Rattle.gate.specs.Clock.{clock_tick, time}
 use Rattle.gate.specs.Cycles.{at_rest, condition_holds, gate_phases, trips}
 use Rattle.gate.specs.Queries.{query_answer, is_calling, status_word}
@@ -33,44 +33,17 @@ pub record StepsInOrder (i : Inputs) (g h : Gate) : Type 0 where
   pub rests : h.motion.rested ≡ at_rest h
   pub completes : h.events.complete ≡ (g.events.complete || (at_rest h && not g.motion.rested))
 
--- between g and h no question answers otherwise but those that `asks` names
-pub record SameAnswersBut (asks : Query → Bool) (g h : Gate) : Type 0 where
-  pub answers : (q : Query) → asks q ≡ false → query_answer q h ≡ query_answer q g
+-- between g and h no question answers otherwise but the one that is named, if one is
+pub record SameAnswersBut (named : Option Query) (g h : Gate) : Type 0 where
+  pub answers : (q : Query) → named ≢ Some q → query_answer q h ≡ query_answer q g
   pub status : (axis : ℕ) → status_word axis h ≡ status_word axis g
   pub calls : is_calling h ≡ is_calling g
   pub phases : gate_phases h ≡ gate_phases g
 
-abbrev pub is_position : Query → Bool
-is_position Position = true
-is_position Velocity = false
-is_position Acceleration = false
-is_position TargetPosition = false
-is_position TargetVelocity = false
-is_position ActualPosition = false
-is_position CycleTime = false
-
-abbrev pub is_velocity : Query → Bool
-is_velocity Position = false
-is_velocity Velocity = true
-is_velocity Acceleration = false
-is_velocity TargetPosition = false
-is_velocity TargetVelocity = false
-is_velocity ActualPosition = false
-is_velocity CycleTime = false
-
-abbrev pub is_acceleration : Query → Bool
-is_acceleration Position = false
-is_acceleration Velocity = false
-is_acceleration Acceleration = true
-is_acceleration TargetPosition = false
-is_acceleration TargetVelocity = false
-is_acceleration ActualPosition = false
-is_acceleration CycleTime = false
-
--- the one question that sees the register that is loaded
-abbrev pub load_sees : Load → Query → Bool
-load_sees (load.Destination x) q = is_position q
-load_sees (load.Velocity x) q = is_velocity q
-load_sees (load.Acceleration x) q = is_acceleration q
-load_sees (load.Mode m) q = false
-load_sees (load.Power x) q = false
+-- the one question that sees the register that is loaded, if one does
+abbrev pub load_sees : Load → Option Query
+load_sees (load.Destination x) = Some Position
+load_sees (load.Velocity x) = Some Velocity
+load_sees (load.Acceleration x) = Some Acceleration
+load_sees (load.Mode m) = None
+load_sees (load.Power x) = None
