@@ -126,7 +126,7 @@ displayed k l (act_write w ∷ h) =
 displayed k l (act_read ∷ h) =
     displayed k l h ∙ sym (by_step (displays (own_list k h)) k (state_after h) (port_step (state_after h).port incoming.Read))
 displayed k l (act_cycle i j ∷ h) =
-    by_two (λ k. pair_at (given_pairs (state_after h) (act_cycle i j) zero_pairs) k ≡ gate_phases (gate_of (state_after (act_cycle i j ∷ h)) k)) refl refl k l
+    by_two (λ k. pair_at (given_pairs (state_after h) (act_cycle i j)) k ≡ gate_phases (gate_of (state_after (act_cycle i j ∷ h)) k)) refl refl k l
     ∙ ap gate_phases (gate_by_own_list_is k l (act_cycle i j ∷ h))
 displayed k l (act_reset ∷ h) = by_two (λ k. pair_at zero_pairs k ≡ (pos 0, pos 0)) refl refl k l
 displayed k l (act_take ∷ h) = displayed k l h ∙ sym (by_if (displays (own_list k h)) k (lendable (state_after h)) entry_take refl)

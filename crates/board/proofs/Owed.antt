@@ -1,8 +1,7 @@
 -- What an act owes, from its answer, its state and its pairs.
 use Rattle.std.proofs.Common.{◌≡◌, ℕ, Bool, true, false, cond, ltb, ℤ, Some, None, Option, sym, refl, ap, ◌∙◌, subst, []}
 use Rattle.stage.specs.declared.Stage.{Ghosts}
-use Rattle.stage.specs.Pairs.{Pair, Pairs, zero_pairs, pairs_after_show}
-use Rattle.stage.proofs.Quantizing.{quantize_zero}
+use Rattle.stage.specs.Pairs.{Pair, Pairs, pairs_after_show}
 use Rattle.gate.specs.Cycles.{gate_phases}
 use Rattle.board.specs.declared.command.Command.{Command}
 use Rattle.board.specs.declared.command.Command.TheVariants.{Status, Ask, Now, Word, Long, MultiUpdate}
@@ -17,7 +16,7 @@ use Rattle.board.specs.Commands.{command_of}
 use Rattle.board.specs.Ports.{port_after_command, command_step, port_after_write, write_step, port_after_read, read_step}
 use Rattle.board.specs.Owners.{SetsCurrent}
 use Rattle.board.proofs.Owners.{no_entry, other_gate, spared_gate, turns}
-use Rattle.board.specs.Runs.{pair_at, state_after, given_pairs, given_pairs_after, quantized_pairs, Performs, KeepsStage, pairs_after}
+use Rattle.board.specs.Runs.{pair_at, state_after, reaches_stage, given_pairs, given_pairs_after, quantized_pairs, shown_pairs, Performs}
 
 out_of_range : (fits : Bool) (e : Refusal) → act_answer (order_answer fits) ≡ answer_refused e → e ≡ OutOfRange
 out_of_range true e h = cc
@@ -94,73 +93,61 @@ refused_still : (s : State) (a : Act) (e : Refusal) → answer s a ≡ answer_re
 refused_still s a e h other =
     ap (λ z. next_state z (transition s a)) (state_past_port_still s a e h other) ∙ next_state_still s (transition s a) e h other
 
--- nothing is shown of nothing
-pub quantized_zero_pairs : (step : ℕ) → zero_pairs ≡ quantized_pairs step zero_pairs
-quantized_zero_pairs step = cc (quantize_zero step)
+-- an act that is refused does not reach the stage
+refused_off : (s : State) (a : Act) (e : Refusal) → answer s a ≡ answer_refused e → reaches_stage a ≡ false
+refused_off s (act_cycle i j) e h = cc
+refused_off s act_reset e h = cc
+refused_off s a e h = refl
+
+-- nor does one that stands in no gate's own list
+foreign_off : (k : ℕ) (s : State) (a : Act) → entries k (transition s a) ≡ [] → reaches_stage a ≡ false
+foreign_off k s (act_cycle i j) h = cc
+foreign_off k s act_reset h = cc
+foreign_off k s a h = refl
 
 module _ {S : Type 0} (m : Ghosts S) where
-  pairs_still : (b : Board S m) (a : Act) (e : Refusal) → answer (state_of b.table) a ≡ answer_refused e
-      → pairs_after m b a ≡ m.pairs b.stage
-  pairs_still b (act_cycle i j) e h = cc
-  pairs_still b act_reset e h = cc
-  pairs_still b (act_command x) e h = refl
-  pairs_still b (act_write w) e h = refl
-  pairs_still b act_read e h = refl
-  pairs_still b act_take e h = refl
-  pairs_still b (act_close j w) e h = refl
+  pairs_still : (s : State) (a : Act) (before : Pairs) → reaches_stage a ≡ false → shown_pairs m.STEP s a before ≡ before
+  pairs_still s a before off = ap (λ t. cond t (quantized_pairs m.STEP (given_pairs s a)) before) off
 
-  stage_still : (b c : Board S m) (a : Act) (e : Refusal) → answer (state_of b.table) a ≡ answer_refused e → KeepsStage m a b c
-      → c.stage ≡ b.stage
-  stage_still b c (act_cycle i j) e h k = cc
-  stage_still b c act_reset e h k = cc
-  stage_still b c (act_command x) e h k = k
-  stage_still b c (act_write w) e h k = k
-  stage_still b c act_read e h k = k
-  stage_still b c act_take e h k = k
-  stage_still b c (act_close j w) e h k = k
-
-  pair_spared : (b : Board S m) (a : Act) (k : ℕ) → entries k (transition (state_of b.table) a) ≡ []
-      → pair_at (pairs_after m b a) k ≡ pair_at (m.pairs b.stage) k
-  pair_spared b (act_cycle i j) k h = cc
-  pair_spared b act_reset k h = cc
-  pair_spared b (act_command x) k h = refl
-  pair_spared b (act_write w) k h = refl
-  pair_spared b act_read k h = refl
-  pair_spared b act_take k h = refl
-  pair_spared b (act_close j w) k h = refl
-
-  pairs_on : (b : Board S m) (a : Act) (s : State) (p : Pairs) → state_of b.table ≡ s → m.pairs b.stage ≡ quantized_pairs m.STEP p
-      → pairs_after m b a ≡ quantized_pairs m.STEP (given_pairs s a p)
-  pairs_on b (act_cycle i j) s p e h = ap (λ z. quantized_pairs m.STEP (given_pairs z (act_cycle i j) zero_pairs)) e
-  pairs_on b act_reset s p e h = quantized_zero_pairs m.STEP
-  pairs_on b (act_command x) s p e h = h
-  pairs_on b (act_write w) s p e h = h
-  pairs_on b act_read s p e h = h
-  pairs_on b act_take s p e h = h
-  pairs_on b (act_close k w) s p e h = h
+  -- what is shown after an act is what was last given, quantized
+  pairs_given : (a : Act) (s : State) (given before : Pairs) → before ≡ quantized_pairs m.STEP given
+      → shown_pairs m.STEP s a before ≡ quantized_pairs m.STEP (cond (reaches_stage a) (given_pairs s a) given)
+  pairs_given a s given before h = go (reaches_stage a)
+    where
+      go : (t : Bool) → cond t (quantized_pairs m.STEP (given_pairs s a)) before ≡ quantized_pairs m.STEP (cond t (given_pairs s a) given)
+      go true = refl
+      go false = h
 
   pub performs : (a : Act) (x : Answer) (b c : Board S m) → x ≡ answer (state_of b.table) a
       → state_of c.table ≡ state_after_act (state_of b.table) a
-      → m.pairs c.stage ≡ pairs_after m b a → KeepsStage m a b c → Performs m a x b c
+      → m.pairs c.stage ≡ shown_pairs m.STEP (state_of b.table) a (m.pairs b.stage)
+      → (reaches_stage a ≡ false → c.stage ≡ b.stage) → Performs m a x b c
   performs a x b c answers state pairs stage = record {
     answers = answers;
     state = state;
     pairs = pairs;
     stage = stage;
-    kept = λ e h other. record {
-      state = state ∙ refused_still (state_of b.table) a e (sym answers ∙ h) other;
-      stage = stage_still b c a e (sym answers ∙ h) stage;
-      pairs = pairs ∙ pairs_still b a e (sym answers ∙ h);
-    };
+    kept = λ e h other.
+        let off = refused_off (state_of b.table) a e (sym answers ∙ h) in
+        record {
+          state = state ∙ refused_still (state_of b.table) a e (sym answers ∙ h) other;
+          stage = stage off;
+          pairs = pairs ∙ pairs_still (state_of b.table) a (m.pairs b.stage) off;
+        };
     turns = subst (SetsCurrent (state_of b.table) a) (sym state) (turns (state_of b.table) a);
-    spared = λ k l no. record {
-      record_stays = ap (λ z. gate_of z k) state ∙ spared_gate k l (state_of b.table) a no;
-      pair_stays = ap (λ p. pair_at p k) pairs ∙ pair_spared b a k (no_entry k l (state_of b.table) a no);
-    };
+    spared = λ k l no.
+        let off = foreign_off k (state_of b.table) a (no_entry k l (state_of b.table) a no) in
+        record {
+          record_stays = ap (λ z. gate_of z k) state ∙ spared_gate k l (state_of b.table) a no;
+          pair_stays = ap (λ p. pair_at p k) (pairs ∙ pairs_still (state_of b.table) a (m.pairs b.stage) off);
+        };
     packet = λ k l at taking no. ap (λ z. gate_of z k) state ∙ other_gate k l (state_of b.table) a at taking no;
     history = λ h came. record {
       state = state ∙ ap (λ s. state_after_act s a) came.state;
-      pairs = pairs ∙ pairs_on b a (state_after h) (given_pairs_after h) came.state came.pairs;
+      pairs =
+          pairs
+          ∙ (ap (λ s. shown_pairs m.STEP s a (m.pairs b.stage)) came.state
+          ∙ pairs_given a (state_after h) (given_pairs_after h) (m.pairs b.stage) came.pairs);
     };
   }
 

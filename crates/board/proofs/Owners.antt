@@ -66,7 +66,7 @@ by_tests test s false true (suc zero) e d h = (omega arith, record { passes = d;
 by_tests test s false true (suc (suc k)) e d h = let never : ◌≡◌ {A = ℕ} 1 (suc (suc k)) = cc in absurd (omega arith)
 by_tests test s false false k e d h = cc
 
-lowest_is : (test : Gate → Bool) (s : State) (k : ℕ) → lowest test s ≡ Some k → (k < 2) × IsLowest test s k
+pub lowest_is : (test : Gate → Bool) (s : State) (k : ℕ) → lowest test s ≡ Some k → (k < 2) × IsLowest test s k
 lowest_is test s k h = by_tests test s (test s.one) (test s.two) k refl refl h
 
 is_lowest : (test : Gate → Bool) (s : State) (k : ℕ) → k < 2 → IsLowest test s k → lowest test s ≡ Some k

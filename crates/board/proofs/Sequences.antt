@@ -1,13 +1,12 @@
 -- Lists of acts that are performed, one after another.
-use Rattle.std.proofs.Common.{◌≡◌, ℕ, Bool, true, false, cond, ◌||◌, List, [], ◌∷◌, ◌++◌, append_assoc, sym, refl, ap, ◌∙◌}
+use Rattle.std.proofs.Common.{◌≡◌, ℕ, Bool, true, false, ◌||◌, List, [], ◌∷◌, ◌++◌, append_assoc, sym, refl, ap, ◌∙◌}
 use Rattle.stage.specs.declared.Stage.{Ghosts}
-use Rattle.stage.specs.Pairs.{Pairs, zero_pairs}
+use Rattle.stage.specs.Pairs.{Pairs}
 use Rattle.board.specs.declared.board.Board.{Board}
 use Rattle.board.specs.Own.{Answer}
-use Rattle.board.specs.Acts.{State, state_of, Act, act_command, act_write, act_read, act_cycle, act_reset, act_take, act_close, state_after_act}
-use Rattle.board.specs.Runs.{new_state, state_after, given_pairs, quantized_pairs, Performs}
-use Rattle.board.specs.Sequences.{state_from, reaches_stage, any_reaches_stage, pairs_from, PerformsAll}
-use Rattle.board.proofs.Owed.{quantized_zero_pairs}
+use Rattle.board.specs.Acts.{State, state_of, Act, state_after_act}
+use Rattle.board.specs.Runs.{new_state, state_after, reaches_stage, shown_pairs, Performs}
+use Rattle.board.specs.Sequences.{state_from, any_reaches_stage, pairs_from, PerformsAll}
 
 -- from a new board they lead where its history leads
 pub from_new : (acts : List Act) → state_from new_state acts ≡ state_after acts
@@ -22,8 +21,8 @@ pub pairs_++ : (step : ℕ) (s : State) (late early : List Act) (p : Pairs)
     → pairs_from step s (late ++ early) p ≡ pairs_from step (state_from s early) late (pairs_from step s early p)
 pairs_++ step s [] early p = refl
 pairs_++ step s (a ∷ late) early p =
-    ap (λ z. cond (reaches_stage a) (quantized_pairs step (given_pairs z a zero_pairs)) (pairs_from step s (late ++ early) p)) (state_++ s late early)
-    ∙ ap (cond (reaches_stage a) (quantized_pairs step (given_pairs (state_from (state_from s early) late) a zero_pairs))) (pairs_++ step s late early p)
+    ap (λ z. shown_pairs step z a (pairs_from step s (late ++ early) p)) (state_++ s late early)
+    ∙ ap (shown_pairs step (state_from (state_from s early) late) a) (pairs_++ step s late early p)
 
 left_no : (a b : Bool) → (a || b) ≡ false → a ≡ false
 left_no true b h = h
@@ -49,25 +48,8 @@ module _ {S : Type 0} (m : Ghosts S) where
 
   -- one act
   pub performed_one : (a : Act) (x : Answer) (b c : Board S m) → Performs m a x b c → PerformsAll m (a ∷ []) b c
-  performed_one a x b c d = record { state = d.state; pairs = pairs a d; stage = stage a d; history = d.history }
-    where
-      pairs : (a : Act) → Performs m a x b c → m.pairs c.stage ≡ pairs_from m.STEP (state_of b.table) (a ∷ []) (m.pairs b.stage)
-      pairs (act_command x) d = d.pairs
-      pairs (act_write w) d = d.pairs
-      pairs act_read d = d.pairs
-      pairs (act_cycle i j) d = d.pairs
-      pairs act_reset d = d.pairs ∙ quantized_zero_pairs m.STEP
-      pairs act_take d = d.pairs
-      pairs (act_close k w) d = d.pairs
-
-      stage : (a : Act) → Performs m a x b c → any_reaches_stage (a ∷ []) ≡ false → c.stage ≡ b.stage
-      stage (act_command x) d e = d.stage
-      stage (act_write w) d e = d.stage
-      stage act_read d e = d.stage
-      stage (act_cycle i j) d e = cc
-      stage act_reset d e = cc
-      stage act_take d e = d.stage
-      stage (act_close k w) d e = d.stage
+  performed_one a x b c d =
+      record { state = d.state; pairs = d.pairs; stage = λ e. d.stage (left_no (reaches_stage a) false e); history = d.history }
 
   -- one list after another
   pub performed_lists : (late early : List Act) (b c d : Board S m) → PerformsAll m early b c → PerformsAll m late c d

@@ -89,35 +89,28 @@ answer_of_value false = refl
 
 -- both gates after a cycle
 module _ (t u : Table) (x y : Gate) (two_long : length t.gates ≡ 2) (gates : u.gates ≡ set (set t.gates 0 x) 1 y) where
-  first_is : get_or u.gates 0 blank_gate ≡ x
-  first_is = ap (λ gs. get_or gs 0 blank_gate) gates ∙ front t.gates two_long
-    where
-      front : (gs : List Gate) → length gs ≡ 2 → get_or (set (set gs 0 x) 1 y) 0 blank_gate ≡ x
-      front [] e = let no : ⊥ = omega arith in absurd no
-      front (a ∷ []) e = let no : ⊥ = omega arith in absurd no
-      front (a ∷ b ∷ gs) e = refl
+  both_set : (gs : List Gate) → length gs ≡ 2
+      → (get_or (set (set gs 0 x) 1 y) 0 blank_gate ≡ x) × (get_or (set (set gs 0 x) 1 y) 1 blank_gate ≡ y)
+  both_set [] e = let no : ⊥ = omega arith in absurd no
+  both_set (a ∷ []) e = let no : ⊥ = omega arith in absurd no
+  both_set (a ∷ b ∷ gs) e = (refl, refl)
 
-  second_is : get_or u.gates 1 blank_gate ≡ y
-  second_is = ap (λ gs. get_or gs 1 blank_gate) gates ∙ back t.gates two_long
-    where
-      back : (gs : List Gate) → length gs ≡ 2 → get_or (set (set gs 0 x) 1 y) 1 blank_gate ≡ y
-      back [] e = let no : ⊥ = omega arith in absurd no
-      back (a ∷ []) e = let no : ⊥ = omega arith in absurd no
-      back (a ∷ b ∷ gs) e = refl
+  both_are : (get_or u.gates 0 blank_gate ≡ x) × (get_or u.gates 1 blank_gate ≡ y)
+  both_are = subst (λ gs. (get_or gs 0 blank_gate ≡ x) × (get_or gs 1 blank_gate ≡ y)) (sym gates) (both_set t.gates two_long)
 
   pub both_cycled : (l r : Inputs) → u.current ≡ t.current → u.port ≡ t.port → x ≡ cycle l (get_or t.gates 0 blank_gate)
       → y ≡ cycle r (get_or (set t.gates 0 x) 1 blank_gate) → state_of u ≡ state_after_act (state_of t) (act_cycle l r)
   both_cycled l r current port e d =
-      let one = first_is ∙ e in
-      let two = second_is ∙ (d ∙ ap (cycle r) (at_set t.gates x 0 1 two_long (lit< tt) (lit< tt))) in
+      let one = both_are.0 ∙ e in
+      let two = both_are.1 ∙ (d ∙ ap (cycle r) (at_set t.gates x 0 1 two_long (lit< tt) (lit< tt))) in
       cc (one, two, current, port)
 
   pub both_shown : (a b : Pair) → a ≡ gate_phases x → b ≡ gate_phases y
       → ◌≡◌ {A = Pair × Pair} (a, b) (gate_phases (state_of u).one, gate_phases (state_of u).two)
-  both_shown a b e d = cc (e ∙ ap gate_phases (sym first_is), d ∙ ap gate_phases (sym second_is))
+  both_shown a b e d = cc (e ∙ ap gate_phases (sym both_are.0), d ∙ ap gate_phases (sym both_are.1))
 
   pub both_fit : IsSoundTable t → u.current < 2 → IsSound x → IsSound y → IsSoundTable u
-  both_fit f c p q = record { current = c; one = subst IsSound (sym first_is) p; two = subst IsSound (sym second_is) q }
+  both_fit f c p q = record { current = c; one = subst IsSound (sym both_are.0) p; two = subst IsSound (sym both_are.1) q }
 
 -- a slip that is taken
 module _ (t : Table) (k : ℕ) (e : Some k ≡ lendable (state_of t)) where

@@ -1,5 +1,5 @@
 -- Histories: lists of acts, the newest first, and what each act owes.
-use Rattle.std.specs.Prelude.{◌≡◌, ℕ, false, ◌<◌, cond, ◌==◌, List, [], ◌∷◌, Ok, Err, Result, ◌≢◌}
+use Rattle.std.specs.Prelude.{◌≡◌, ℕ, ◌<◌, Bool, true, false, cond, ◌==◌, List, [], ◌∷◌, Ok, Err, Result, ◌≢◌}
 use Rattle.stage.specs.declared.Stage.{Ghosts}
 use Rattle.stage.specs.Pairs.{Pair, Pairs, quantized_pair, zero_pairs}
 use Rattle.gate.specs.Cycles.{gate_phases}
@@ -11,7 +11,7 @@ use Rattle.board.specs.declared.board.Board.{Board}
 use Rattle.board.specs.declared.slip.Slip.{Slip}
 use Rattle.board.specs.Own.{Answer, answer_refused, answer_slip, answer_done}
 use Rattle.board.specs.Owners.{IsAtPort, IsForeign, SetsCurrent}
-use Rattle.board.specs.Acts.{State, state_of, gate_of, Act, act_command, act_write, act_read, act_cycle, act_reset, act_take, act_close, state_after_act, answer}
+use Rattle.board.specs.Acts.{State, state_of, gate_of, Act, act_cycle, act_reset, state_after_act, answer}
 
 abbrev pub answer_of_slip : Result Slip Refusal → Answer
 answer_of_slip (Ok s) = answer_slip s.gate
@@ -29,25 +29,30 @@ abbrev pub state_after : List Act → State
 state_after [] = new_state
 state_after (a ∷ h) = state_after_act (state_after h) a
 
--- the numbers that are given to the stage in an act, or `before`, where none are
-abbrev pub given_pairs : State → Act → Pairs → Pairs
-given_pairs s (act_cycle i j) before =
+-- only a cycle and a reset reach the stage
+abbrev pub reaches_stage : Act → Bool
+reaches_stage (act_cycle i j) = true
+reaches_stage act_reset = true
+reaches_stage a = false
+
+-- the numbers that an act gives to the stage that it reaches: the phases of both gates in a cycle, and 0 in a reset
+abbrev pub given_pairs : State → Act → Pairs
+given_pairs s (act_cycle i j) =
     record { one = gate_phases (state_after_act s (act_cycle i j)).one; two = gate_phases (state_after_act s (act_cycle i j)).two }
-given_pairs s act_reset before = zero_pairs
-given_pairs s (act_command b) before = before
-given_pairs s (act_write w) before = before
-given_pairs s act_read before = before
-given_pairs s act_take before = before
-given_pairs s (act_close k w) before = before
+given_pairs s a = zero_pairs
 
 -- the numbers that a list of acts last gave to the stage
 abbrev pub given_pairs_after : List Act → Pairs
 given_pairs_after [] = zero_pairs
-given_pairs_after (a ∷ h) = given_pairs (state_after h) a (given_pairs_after h)
+given_pairs_after (a ∷ h) = cond (reaches_stage a) (given_pairs (state_after h) a) (given_pairs_after h)
 
 -- what a stage of a step shows of numbers
 abbrev pub quantized_pairs : ℕ → Pairs → Pairs
 quantized_pairs step p = record { one = quantized_pair step p.one; two = quantized_pair step p.two }
+
+-- the pairs that a stage of a step shows after an act, where it showed others before
+abbrev pub shown_pairs : ℕ → State → Act → Pairs → Pairs
+shown_pairs step s a before = cond (reaches_stage a) (quantized_pairs step (given_pairs s a)) before
 
 -- gate k's pair
 abbrev pub pair_at : Pairs → ℕ → Pair
@@ -70,31 +75,11 @@ module _ {S : Type 0} (m : Ghosts S) where
     pub state : state_of b.table ≡ state_after h
     pub pairs : m.pairs b.stage ≡ quantized_pairs m.STEP (given_pairs_after h)
 
-  -- the pairs that are shown after an act
-  abbrev pub pairs_after : Board S m → Act → Pairs
-  pairs_after b (act_cycle i j) = quantized_pairs m.STEP (given_pairs (state_of b.table) (act_cycle i j) zero_pairs)
-  pairs_after b act_reset = zero_pairs
-  pairs_after b (act_command x) = m.pairs b.stage
-  pairs_after b (act_write w) = m.pairs b.stage
-  pairs_after b act_read = m.pairs b.stage
-  pairs_after b act_take = m.pairs b.stage
-  pairs_after b (act_close k w) = m.pairs b.stage
-
   -- nothing is changed: gates, current gate, port and stage are those that stood before, and so are the pairs shown
   pub record BoardUnchanged (b c : Board S m) : Type 0 where
     pub state : state_of c.table ≡ state_of b.table
     pub stage : c.stage ≡ b.stage
     pub pairs : m.pairs c.stage ≡ m.pairs b.stage
-
-  -- only a cycle and a reset reach the stage; any other act leaves it as it stood, with all that is on its wires
-  abbrev pub KeepsStage : Act → Board S m → Board S m → Type 0
-  KeepsStage (act_cycle i j) b c = Unit {0}
-  KeepsStage act_reset b c = Unit {0}
-  KeepsStage (act_command x) b c = c.stage ≡ b.stage
-  KeepsStage (act_write w) b c = c.stage ≡ b.stage
-  KeepsStage act_read b c = c.stage ≡ b.stage
-  KeepsStage act_take b c = c.stage ≡ b.stage
-  KeepsStage (act_close k w) b c = c.stage ≡ b.stage
 
   -- gate k's record and its pair are those that were
   pub record SparesGate (k : ℕ) (b c : Board S m) : Type 0 where
@@ -105,8 +90,9 @@ module _ {S : Type 0} (m : Ghosts S) where
   pub record Performs (a : Act) (x : Answer) (b c : Board S m) : Type 0 where
     pub answers : x ≡ answer (state_of b.table) a
     pub state : state_of c.table ≡ state_after_act (state_of b.table) a
-    pub pairs : m.pairs c.stage ≡ pairs_after b a
-    pub stage : KeepsStage a b c
+    pub pairs : m.pairs c.stage ≡ shown_pairs m.STEP (state_of b.table) a (m.pairs b.stage)
+    -- an act that does not reach the stage leaves it as it stood, with all that is on its wires
+    pub stage : reaches_stage a ≡ false → c.stage ≡ b.stage
     -- a refusal but a write's 5 leaves everything as it stood
     pub kept : (e : Refusal) → x ≡ answer_refused e → (e ≢ OutOfRange) → BoardUnchanged b c
     -- gate 1 is current after a reset, a gate after its status is asked, and else the one that was

@@ -1,27 +1,17 @@
 -- What a list of acts, the newest first, makes of a board, however that board came to be.
-use Rattle.std.specs.Prelude.{◌≡◌, ℕ, Bool, true, false, cond, ◌||◌, List, [], ◌∷◌, ◌++◌}
+use Rattle.std.specs.Prelude.{◌≡◌, ℕ, Bool, false, ◌||◌, List, [], ◌∷◌, ◌++◌}
 use Rattle.stage.specs.declared.Stage.{Ghosts}
-use Rattle.stage.specs.Pairs.{Pairs, zero_pairs}
+use Rattle.stage.specs.Pairs.{Pairs}
 use Rattle.board.specs.declared.board.Board.{Board}
-use Rattle.board.specs.Acts.{State, state_of, Act, act_command, act_write, act_read, act_cycle, act_reset, act_take, act_close, state_after_act}
-use Rattle.board.specs.Runs.{ReachedBy, given_pairs, quantized_pairs}
+use Rattle.board.specs.Acts.{State, state_of, Act, state_after_act}
+use Rattle.board.specs.Runs.{ReachedBy, reaches_stage, shown_pairs}
 
 -- the state that they lead to, from a state
 abbrev pub state_from : State → List Act → State
 state_from s [] = s
 state_from s (a ∷ acts) = state_after_act (state_from s acts) a
 
--- only a cycle and a reset reach the stage
-abbrev pub reaches_stage : Act → Bool
-reaches_stage (act_command x) = false
-reaches_stage (act_write w) = false
-reaches_stage act_read = false
-reaches_stage (act_cycle i j) = true
-reaches_stage act_reset = true
-reaches_stage act_take = false
-reaches_stage (act_close k w) = false
-
--- whether one of them does
+-- whether one of them reaches the stage
 abbrev pub any_reaches_stage : List Act → Bool
 any_reaches_stage [] = false
 any_reaches_stage (a ∷ acts) = reaches_stage a || any_reaches_stage acts
@@ -29,8 +19,7 @@ any_reaches_stage (a ∷ acts) = reaches_stage a || any_reaches_stage acts
 -- the pairs that a stage of a step shows after them: by the last one that reaches the stage, and those before, where none does
 abbrev pub pairs_from : ℕ → State → List Act → Pairs → Pairs
 pairs_from step s [] before = before
-pairs_from step s (a ∷ acts) before =
-    cond (reaches_stage a) (quantized_pairs step (given_pairs (state_from s acts) a zero_pairs)) (pairs_from step s acts before)
+pairs_from step s (a ∷ acts) before = shown_pairs step (state_from s acts) a (pairs_from step s acts before)
 
 -- they make c of the board b, and carry its history on
 pub record PerformsAll {S : Type 0} (m : Ghosts S) (acts : List Act) (b c : Board S m) : Type 0 where

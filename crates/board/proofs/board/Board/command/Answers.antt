@@ -3,4 +3,4 @@ use Rattle.board.proofs.Owed.{performs}
 use Rattle.board.proofs.board.Board.command.Goals as goal
 
 pub returns : goal.returns
-returns g c = performs _ _ _ _ _ c.command.ensures.answer c.command.ensures.state refl refl
+returns g c = performs _ _ _ _ _ c.command.ensures.answer c.command.ensures.state refl (λ e. refl)
