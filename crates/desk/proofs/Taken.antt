@@ -1,30 +1,13 @@
 -- Where the slip of a take is kept.
-use Rattle.std.proofs.Common.{◌≡◌, ℕ, Bool, true, false, cond, not, ◌&&◌, eqb, Some, None, Option, sym, refl, ap, ◌∙◌}
-use Rattle.gate.specs.Queries.{is_calling}
+use Rattle.std.proofs.Common.{◌≡◌, ℕ, Bool, true, false, not, ◌&&◌, eqb, Some, None, Option, sym, refl, ap, ◌∙◌}
 use Rattle.board.specs.declared.slip.Slip.{Slip}
 use Rattle.board.specs.declared.refusal.Refusal.{Refusal}
 use Rattle.board.specs.Own.{entry_take, answer_slip, answer_refused}
-use Rattle.board.specs.Acts.{State, enter, entry_transition, next_state, state_after_act, answer, act_take}
+use Rattle.board.specs.Acts.{State, gate_of, enter, entry_transition, next_state, state_after_act, answer, act_take}
+use Rattle.board.specs.Owners.{is_waiting}
+use Rattle.board.proofs.Owners.{lowest_is}
 use Rattle.board.proofs.Slips.{taken_gate, taken_none}
 use Rattle.desk.specs.Keeps.{is_kept_while_out, state_keeps}
-
--- a gate that a slip is lent for has none out
-lent_one : (a p b q : Bool) → ◌≡◌ {A = Option ℕ} (Some 0) (cond (a && not p) (Some 0) (cond (b && not q) (Some 1) None)) → p ≡ false
-lent_one a false b q h = refl
-lent_one true true true true h = cc
-lent_one true true true false h = cc
-lent_one true true false q h = cc
-lent_one false true true true h = cc
-lent_one false true true false h = cc
-lent_one false true false q h = cc
-
-lent_two : (a p b q : Bool) → ◌≡◌ {A = Option ℕ} (Some 1) (cond (a && not p) (Some 0) (cond (b && not q) (Some 1) None)) → q ≡ false
-lent_two a p b false h = refl
-lent_two true true true true h = cc
-lent_two true true false true h = cc
-lent_two true false b true h = cc
-lent_two false p true true h = cc
-lent_two false p false true h = cc
 
 none_held : (k : ℕ) (o : Option Slip) (out : Bool) → is_kept_while_out k o out ≡ true → out ≡ false → o ≡ None
 none_held k None out h e = refl
@@ -43,14 +26,22 @@ pub snd : (a b : Bool) → (a && b) ≡ true → b ≡ true
 snd true b h = h
 snd false b h = cc
 
+unset : (b : Bool) → not b ≡ true → b ≡ false
+unset true h = cc
+unset false h = refl
+
+-- a gate that a slip is lent for has none out
+none_out : (s : State) (k : ℕ) → answer_slip k ≡ answer s act_take → (gate_of s k).slip ≡ false
+none_out s k t = unset _ (snd _ _ (lowest_is is_waiting s k (sym (taken_gate s k t))).1.passes)
+
 module _ (s : State) (first second : Option Slip) (h : state_keeps s first second ≡ true) where
   pub first_none : answer_slip 0 ≡ answer s act_take → first ≡ None
   first_none t =
-      none_held 0 first s.one.slip (fst _ _ h) (lent_one (is_calling s.one) s.one.slip (is_calling s.two) s.two.slip (taken_gate s 0 t))
+      none_held 0 first s.one.slip (fst _ _ h) (none_out s 0 t)
 
   pub second_none : answer_slip 1 ≡ answer s act_take → second ≡ None
   second_none t =
-      none_held 1 second s.two.slip (snd _ _ h) (lent_two (is_calling s.one) s.one.slip (is_calling s.two) s.two.slip (taken_gate s 1 t))
+      none_held 1 second s.two.slip (snd _ _ h) (none_out s 1 t)
 
   pub keeps_first : (z : State) (slip : Slip) → slip.gate ≡ 0 → answer_slip 0 ≡ answer s act_take → z ≡ state_after_act s act_take
       → state_keeps z (Some slip) second ≡ true
