@@ -28,10 +28,7 @@ state_past_port_gate : (s : State) (a : Act) (k : ℕ) → gate_of (state_past_p
 state_past_port_gate s (act_command b) k = refl
 state_past_port_gate s (act_write w) k = refl
 state_past_port_gate s act_read k = refl
-state_past_port_gate s (act_cycle i j) k = refl
-state_past_port_gate s act_reset k = refl
-state_past_port_gate s act_take k = refl
-state_past_port_gate s (act_close j w) k = refl
+state_past_port_gate s a k = refl
 
 -- a gate after an act
 pub after_gate : (s : State) (a : Act) (k : ℕ) → k < 2
@@ -104,13 +101,7 @@ abbrev pub display : List OwnEntry → Pair
 display [] = (pos 0, pos 0)
 display (entry_reset ∷ es) = (pos 0, pos 0)
 display (entry_cycle i ∷ es) = gate_phases (gate_by_own_list (entry_cycle i ∷ es))
-display (entry_order o ∷ es) = display es
-display (entry_word_order o w ∷ es) = display es
-display (entry_long_order o h l ∷ es) = display es
-display (entry_query q ∷ es) = display es
-display (entry_status w ∷ es) = display es
-display (entry_take ∷ es) = display es
-display (entry_close w ∷ es) = display es
+display (e ∷ es) = display es
 
 -- an order or a question gives the stage nothing
 displays : (es : List OwnEntry) → Ordinary (λ l. display (l ++ es) ≡ display es)

@@ -26,21 +26,10 @@ out_of_range false e h = cc
 next_state_still : (s : State) (m : Transition) (e : Refusal) → transition_answer s m ≡ answer_refused e → (e ≡ OutOfRange → ⊥)
     → next_state s m ≡ s
 next_state_still s (refuse r) e h other = refl
-next_state_still s wait e h other = cc
-next_state_still s (enter j entry_reset) e h other = cc
-next_state_still s (enter j (entry_cycle i)) e h other = cc
-next_state_still s (enter j (entry_order o)) e h other = cc
 next_state_still s (enter j (entry_word_order o w)) e h other = absurd (other (out_of_range _ e h))
 next_state_still s (enter j (entry_long_order o a b)) e h other = absurd (other (out_of_range _ e h))
-next_state_still s (enter j (entry_query q)) e h other = cc
-next_state_still s (enter j (entry_status w)) e h other = cc
-next_state_still s (enter j entry_take) e h other = cc
-next_state_still s (enter j (entry_close w)) e h other = cc
-next_state_still s (multi_update w) e h other = cc
 next_state_still s refuse_value e h other = absurd (other cc)
-next_state_still s (give w) e h other = cc
-next_state_still s (cycle_both i j) e h other = cc
-next_state_still s reset_both e h other = cc
+next_state_still s m e h other = cc
 
 -- what comes to the port and is refused, but for its value, leaves the port as it stood
 command_still : (s : State) (p : Port) (c : Option Command) (e : Refusal)
@@ -84,10 +73,7 @@ state_past_port_still : (s : State) (a : Act) (e : Refusal) → answer s a ≡ a
 state_past_port_still s (act_command b) e h other = ap (λ p. record s { port = p }) (command_still s s.port (command_of b) e h)
 state_past_port_still s (act_write w) e h other = ap (λ p. record s { port = p }) (write_still s s.port w e h other)
 state_past_port_still s act_read e h other = ap (λ p. record s { port = p }) (read_still s s.port e h)
-state_past_port_still s (act_cycle i j) e h other = refl
-state_past_port_still s act_reset e h other = refl
-state_past_port_still s act_take e h other = refl
-state_past_port_still s (act_close k w) e h other = refl
+state_past_port_still s a e h other = refl
 
 refused_still : (s : State) (a : Act) (e : Refusal) → answer s a ≡ answer_refused e → (e ≡ OutOfRange → ⊥) → state_after_act s a ≡ s
 refused_still s a e h other =

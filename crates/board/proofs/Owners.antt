@@ -294,10 +294,7 @@ module _ (k : ℕ) (l : k < 2) (s : State) where
       after_gate s (act_write x) k l ∙ off_step (port_step s.port (incoming.Write x)) (λ w e. taking (gates_only s.port (incoming.Write x) w e)) apart
   other_gate act_read at taking apart =
       after_gate s act_read k l ∙ off_step (port_step s.port incoming.Read) (λ w e. taking (gates_only s.port incoming.Read w e)) apart
-  other_gate (act_cycle i j) at taking apart = absurd at
-  other_gate act_reset at taking apart = absurd at
-  other_gate act_take at taking apart = absurd at
-  other_gate (act_close j w) at taking apart = absurd at
+  other_gate a at taking apart = absurd at
 
 -- which gate is current
 current_stays : (s : State) (b : ℕ) (c : Option Command) (p : Port) → command_of b ≡ c → s.port ≡ p

@@ -121,10 +121,7 @@ abbrev pub state_past_port : State → Act → State
 state_past_port s (act_command b) = record s { port = port_after_incoming s.port (incoming.Command b) }
 state_past_port s (act_write w) = record s { port = port_after_incoming s.port (incoming.Write w) }
 state_past_port s act_read = record s { port = port_after_incoming s.port incoming.Read }
-state_past_port s (act_cycle i j) = s
-state_past_port s act_reset = s
-state_past_port s act_take = s
-state_past_port s (act_close k w) = s
+state_past_port s a = s
 
 -- whether a word of MULTI_UPDATE counts gate k: bit 0 for gate 1, bit 1 for gate 2
 abbrev pub counts_gate : ℕ → ℕ → Bool
@@ -132,58 +129,32 @@ counts_gate w k = cond (k == 0) (w % 2 == 1) (w / 2 == 1)
 
 -- what of a transition stands in the own list of gate k
 abbrev pub entries : ℕ → Transition → List OwnEntry
-entries k (refuse r) = []
-entries k wait = []
 entries k (enter j e) = cond (j == k) (e ∷ []) []
 entries k (multi_update w) = cond (counts_gate w k) (entry_order Update ∷ []) []
-entries k refuse_value = []
-entries k (give w) = []
 entries k (cycle_both i j) = entry_cycle (cond (k == 0) i j) ∷ []
 entries k reset_both = entry_reset ∷ []
+entries k m = []
 
 -- a status that is asked makes its gate current
 abbrev pub current_after_entry : ℕ → ℕ → OwnEntry → ℕ
-current_after_entry n j entry_reset = n
-current_after_entry n j (entry_cycle i) = n
-current_after_entry n j (entry_order o) = n
-current_after_entry n j (entry_word_order o w) = n
-current_after_entry n j (entry_long_order o h l) = n
-current_after_entry n j (entry_query q) = n
 current_after_entry n j (entry_status w) = j
-current_after_entry n j entry_take = n
-current_after_entry n j (entry_close w) = n
+current_after_entry n j e = n
 
 abbrev pub current_after : ℕ → Transition → ℕ
-current_after n (refuse r) = n
-current_after n wait = n
 current_after n (enter j e) = current_after_entry n j e
-current_after n (multi_update w) = n
-current_after n refuse_value = n
-current_after n (give w) = n
-current_after n (cycle_both i j) = n
 current_after n reset_both = 0
+current_after n m = n
 
 -- a read command fixes its answer; of any other entry the port knows already
 abbrev pub port_after_entry : State → ℕ → OwnEntry → Port
-port_after_entry s j entry_reset = s.port
-port_after_entry s j (entry_cycle i) = s.port
-port_after_entry s j (entry_order o) = s.port
-port_after_entry s j (entry_word_order o w) = s.port
-port_after_entry s j (entry_long_order o h l) = s.port
 port_after_entry s j (entry_query q) = Giving (query_answer q (gate_of s j) / 65536) (Some (query_answer q (gate_of s j) % 65536))
 port_after_entry s j (entry_status w) = Giving (status_word j (gate_of s j)) None
-port_after_entry s j entry_take = s.port
-port_after_entry s j (entry_close w) = s.port
+port_after_entry s j e = s.port
 
 abbrev pub port_after : State → Transition → Port
-port_after s (refuse r) = s.port
-port_after s wait = s.port
 port_after s (enter j e) = port_after_entry s j e
-port_after s (multi_update w) = s.port
-port_after s refuse_value = s.port
-port_after s (give w) = s.port
-port_after s (cycle_both i j) = s.port
 port_after s reset_both = Idle
+port_after s m = s.port
 
 -- the state that a transition leads to, from one whose port has moved on
 abbrev pub next_state : State → Transition → State
@@ -197,21 +168,15 @@ next_state s m =
 
 -- an act that fixes an answer is itself only accepted
 abbrev pub act_answer : Answer → Answer
-act_answer answer_done = answer_done
-act_answer (answer_refused r) = answer_refused r
-act_answer (answer_word w) = answer_word w
 act_answer (answer_words w ws) = answer_done
-act_answer (answer_slip k) = answer_slip k
+act_answer x = x
 
 abbrev pub transition_answer : State → Transition → Answer
 transition_answer s (refuse r) = answer_refused r
-transition_answer s wait = answer_done
 transition_answer s (enter j e) = act_answer (entry_answer j (gate_of s j) e)
-transition_answer s (multi_update w) = answer_done
 transition_answer s refuse_value = answer_refused OutOfRange
 transition_answer s (give w) = answer_word w
-transition_answer s (cycle_both i j) = answer_done
-transition_answer s reset_both = answer_done
+transition_answer s m = answer_done
 
 abbrev pub state_after_act : State → Act → State
 state_after_act s a = next_state (state_past_port s a) (transition s a)

@@ -32,24 +32,14 @@ waiting_words w None = answer_words w []
 
 -- the answer that waits in a port
 abbrev pub waiting_answer : Port → Answer
-waiting_answer Idle = answer_done
-waiting_answer (TakingWord o) = answer_done
-waiting_answer (TakingHigh o) = answer_done
-waiting_answer (TakingLow o high) = answer_done
-waiting_answer TakingGates = answer_done
 waiting_answer (Giving w t) = waiting_words w t
+waiting_answer p = answer_done
 
 -- the answer to an entry that a transition makes: of a read command the words that it leaves in the port, of any other what the act answers
 abbrev pub answer_to : State → Transition → OwnEntry → Answer
-answer_to s m entry_reset = transition_answer s m
-answer_to s m (entry_cycle i) = transition_answer s m
-answer_to s m (entry_order o) = transition_answer s m
-answer_to s m (entry_word_order o w) = transition_answer s m
-answer_to s m (entry_long_order o high low) = transition_answer s m
 answer_to s m (entry_query q) = waiting_answer (port_after s m)
 answer_to s m (entry_status w) = waiting_answer (port_after s m)
-answer_to s m entry_take = transition_answer s m
-answer_to s m (entry_close w) = transition_answer s m
+answer_to s m e = transition_answer s m
 
 -- the answers to gate k's acts, in the order of its own list
 abbrev pub own_answers : ℕ → List Act → List Answer
@@ -72,16 +62,13 @@ abbrev pub book_after_order : Order → Book → Book
 book_after_order (Mode m) b = record b { loaded = record b.loaded { mode = m } }
 book_after_order Stop b = record b { loaded = record b.loaded { velocity = 0 } }
 book_after_order Update b = book_after_latch b
-book_after_order (Auto on) b = b
-book_after_order (Break m) b = b
-book_after_order (Motor kind) b = b
+book_after_order o b = b
 
 abbrev pub book_after_long : LongOrder → ℕ → Book → Book
 book_after_long long.Destination v b = record b { loaded = record b.loaded { destination = to_z w32 v } }
 book_after_long long.Velocity v b = record b { loaded = record b.loaded { velocity = v } }
 book_after_long long.Acceleration v b = record b { loaded = record b.loaded { acceleration = to_z w32 v } }
-book_after_long long.Point v b = b
-book_after_long long.Actual v b = b
+book_after_long o v b = b
 
 -- a cycle latches where its breakpoint is met while auto update is on
 abbrev pub latches : Inputs → Gate → Bool
@@ -94,12 +81,8 @@ book [] = new_book
 book (entry_reset ∷ es) = new_book
 book (entry_cycle i ∷ es) = cond (latches i (gate_by_own_list es)) (book_after_latch (book es)) (book es)
 book (entry_order o ∷ es) = book_after_order o (book es)
-book (entry_word_order o w ∷ es) = book es
 book (entry_long_order o high low ∷ es) = cond (long_fits o (join high low)) (book_after_long o (join high low) (book es)) (book es)
-book (entry_query q ∷ es) = book es
-book (entry_status w ∷ es) = book es
-book (entry_take ∷ es) = book es
-book (entry_close w ∷ es) = book es
+book (e ∷ es) = book es
 
 -- two numbers are less than d apart
 pub record DifferByLessThan (d : ℕ) (x y : ℤ) : Type 0 where

@@ -70,10 +70,7 @@ abbrev pub IsAtPort : Act → Type 0
 IsAtPort (act_command b) = Unit {0}
 IsAtPort (act_write w) = Unit {0}
 IsAtPort act_read = Unit {0}
-IsAtPort (act_cycle i j) = ⊥
-IsAtPort act_reset = ⊥
-IsAtPort act_take = ⊥
-IsAtPort (act_close k w) = ⊥
+IsAtPort a = ⊥
 
 -- which gate is current after an act: gate 1 after a reset, the gate whose status is given, and else the one that was
 pub record SetsCurrent (s : State) (a : Act) (z : State) : Type 0 where
