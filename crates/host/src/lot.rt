@@ -85,7 +85,7 @@ impl Outcome {
     }
 
     /// Notes what a cycle did to the gate.
-    pub fn note(&mut self, gate: Gate)
+    pub(crate) fn note(&mut self, gate: Gate)
         requires { IsSound gate }
         ensures { self.new ≡ outcome_after self.old gate }
     {
