@@ -45,6 +45,30 @@ pub fn follows(rt: &impl Abort, mut gate: Gate, rows: &[(i32, i64, u16)]) -> Res
     Ok(())
 }
 
+/// A gate that moves by one microstep.
+pub fn sent_one_step() -> Gate
+    ensures { IsSound result }
+{
+    sent(ProfileMode::Trapezoidal, 1, 40_000, 16_384)
+}
+
+/// Holds that move to its rows, with this status word at rest.
+pub fn follows_one_step(rt: &impl Abort, gate: Gate, rest: u16) -> Result<(), Fail>
+    requires { IsSound gate }
+{
+    follows(
+        rt,
+        gate,
+        &[
+            (16_384, 16_384, 1024),
+            (32_768, 49_152, 1024),
+            (16_384, 65_536, 1024),
+            (0, 65_536, rest),
+            (0, 65_536, rest),
+        ],
+    )
+}
+
 /// What is left of a long move.
 #[derive(Clone, Copy, PartialEq, Eq, Debug)]
 pub struct Summary {

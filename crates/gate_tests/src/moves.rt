@@ -1,22 +1,11 @@
-use crate::drive::{Summary, follows, sent, travel};
+use crate::drive::{Summary, follows, follows_one_step, sent, sent_one_step, travel};
 use gate::orders::{LongOrder, Order};
 use gate::profile::ProfileMode;
 use std::test::Fail;
 
 #[test]
 fn one_step(rt: HostRuntime) -> Result<(), Fail> {
-    let gate = sent(ProfileMode::Trapezoidal, 1, 40_000, 16_384);
-    follows(
-        &rt,
-        gate,
-        &[
-            (16_384, 16_384, 1024),
-            (32_768, 49_152, 1024),
-            (16_384, 65_536, 1024),
-            (0, 65_536, 1),
-            (0, 65_536, 1),
-        ],
-    )
+    follows_one_step(&rt, sent_one_step(), 1)
 }
 
 #[test]

@@ -1,4 +1,4 @@
-use crate::drive::{BOTH, follows, seen, sent};
+use crate::drive::{BOTH, follows_one_step, seen, sent, sent_one_step};
 use gate::gate::BreakMode;
 use gate::inputs::Inputs;
 use gate::orders::{LongOrder, Order, WordOrder};
@@ -26,24 +26,15 @@ fn limits(rt: HostRuntime) {
 
 #[test]
 fn breaks_before_the_move(rt: HostRuntime) -> Result<(), Fail> {
-    let mut gate = sent(ProfileMode::Trapezoidal, 1, 40_000, 16_384);
+    let mut gate = sent_one_step();
     gate.run(Order::Break(BreakMode::TargetAbove));
     let _ = gate.run_long(LongOrder::Point, 1);
-    follows(
-        &rt,
-        gate,
-        &[
-            (16_384, 16_384, 1024),
-            (32_768, 49_152, 1024),
-            (16_384, 65_536, 1024),
-            (0, 65_536, 5),
-        ],
-    )
+    follows_one_step(&rt, gate, 5)
 }
 
 #[test]
 fn breaks_in_the_first_cycle(rt: HostRuntime) {
-    let mut gate = sent(ProfileMode::Trapezoidal, 1, 40_000, 16_384);
+    let mut gate = sent_one_step();
     gate.run(Order::Break(BreakMode::Time));
     let _ = gate.run_long(LongOrder::Point, 1);
     let _ = gate.run_word(WordOrder::Mask, 4);
