@@ -9,12 +9,12 @@ use Rattle.gate.specs.declared.orders.WordOrder.TheVariants as word
 use Rattle.gate.specs.declared.orders.LongOrder.{LongOrder}
 use Rattle.gate.specs.declared.orders.LongOrder.TheVariants as long
 use Rattle.gate.specs.declared.profile.Profile.{Profile}
-use Rattle.gate.specs.Cycles.{tick, encode, trip, meets, with_breakpoint_reached, cycle}
+use Rattle.gate.specs.Cycles.{tick, add_count, trip, is_breakpoint_met, with_breakpoint_reached, cycle}
 use Rattle.gate.specs.Gates.{with_command_error, latch}
-use Rattle.gate.specs.Orders.{run, run_word, run_long, with_word, word_fits, with_long, long_fits}
+use Rattle.gate.specs.Orders.{run, run_word, run_long, with_word, is_word_in_range, with_long, is_long_in_range}
 use Rattle.gate.proofs.Steps.{meet_keeps}
 use Rattle.board.specs.Own.{OwnEntry, entry_reset, entry_cycle, entry_order, entry_word_order, entry_long_order, entry_query, entry_status, entry_take, entry_close, join, gate_by_own_list}
-use Rattle.board.specs.Isolation.{Book, book, book_after_order, book_after_long, book_after_latch, latches}
+use Rattle.board.specs.Isolation.{Book, book, book_after_order, book_after_long, book_after_latch, is_latching_cycle}
 
 pub record Written (buffered active : Profile) (b : Book) : Type 0 where
   pub loaded : buffered ≡ b.loaded
@@ -38,14 +38,14 @@ book_loaded : (t : Bool) (b : Book) → (cond t (book_after_latch b) b).loaded �
 book_loaded true b = refl
 book_loaded false b = refl
 
-kept_tick : (i : Inputs) (g : Gate) (b : Book) → MatchesBook g b → MatchesBook (cycle i g) (cond (latches i g) (book_after_latch b) b)
+kept_tick : (i : Inputs) (g : Gate) (b : Book) → MatchesBook g b → MatchesBook (cycle i g) (cond (is_latching_cycle i g) (book_after_latch b) b)
 kept_tick i g b k =
-    let x = trip i (encode i.count (tick g)) in
+    let x = trip i (add_count i.count (tick g)) in
     record {
-      loaded = meet_keeps (λ y. y.buffered) i.home x refl refl ∙ (k.loaded ∙ sym (book_loaded (latches i g) b));
+      loaded = meet_keeps (λ y. y.buffered) i.home x refl refl ∙ (k.loaded ∙ sym (book_loaded (is_latching_cycle i g) b));
       latched =
-          meet_active (meets i.home x) g.breakpoint.auto x
-          ∙ (ap (λ y. cond (latches i g) y g.active) k.loaded ∙ (ap (cond (latches i g) b.loaded) k.latched ∙ sym (book_latched (latches i g) b)));
+          meet_active (is_breakpoint_met i.home x) g.breakpoint.auto x
+          ∙ (ap (λ y. cond (is_latching_cycle i g) y g.active) k.loaded ∙ (ap (cond (is_latching_cycle i g) b.loaded) k.latched ∙ sym (book_latched (is_latching_cycle i g) b)));
     }
 
 kept_order : (o : Order) (g : Gate) (b : Book) → MatchesBook g b → MatchesBook (run o g) (book_after_order o b)
@@ -57,18 +57,18 @@ kept_order (Break m) g b k = k
 kept_order (Motor kind) g b k = k
 
 kept_word : (o : WordOrder) (w : ℕ) (g : Gate) (b : Book) → MatchesBook g b → MatchesBook (run_word o w g) b
-kept_word o w g b k = go o (word_fits o w)
+kept_word o w g b k = go o (is_word_in_range o w)
   where
     go : (o : WordOrder) (t : Bool) → MatchesBook (cond t (with_word o w g) (with_command_error g)) b
     go word.BufferedPower true = k
     go word.Power true = k
-    go word.Status true = k
+    go word.ClearEvents true = k
     go word.Mask true = k
     go o false = k
 
 kept_long : (o : LongOrder) (v : ℕ) (g : Gate) (b : Book) → MatchesBook g b
-    → MatchesBook (run_long o v g) (cond (long_fits o v) (book_after_long o v b) b)
-kept_long o v g b k = go o (long_fits o v)
+    → MatchesBook (run_long o v g) (cond (is_long_in_range o v) (book_after_long o v b) b)
+kept_long o v g b k = go o (is_long_in_range o v)
   where
     go : (o : LongOrder) (t : Bool) → MatchesBook (cond t (with_long o v g) (with_command_error g)) (cond t (book_after_long o v b) b)
     go long.Destination true = record { loaded = cc k.loaded; latched = k.latched }

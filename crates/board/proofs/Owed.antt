@@ -16,7 +16,7 @@ use Rattle.board.specs.Commands.{command_of}
 use Rattle.board.specs.Ports.{port_after_command, command_step, port_after_write, write_step, port_after_read, read_step}
 use Rattle.board.specs.Owners.{SetsCurrent}
 use Rattle.board.proofs.Owners.{no_entry, other_gate, spared_gate, turns}
-use Rattle.board.specs.Runs.{pair_at, state_after, reaches_stage, given_pairs, given_pairs_after, quantized_pairs, shown_pairs, Performs}
+use Rattle.board.specs.Runs.{axis_pair, state_after, is_stage_act, given_pairs, given_pairs_after, quantized_pairs, shown_pairs, Performs}
 
 out_of_range : (fits : Bool) (e : Refusal) → act_answer (order_answer fits) ≡ answer_refused e → e ≡ OutOfRange
 out_of_range true e h = cc
@@ -80,25 +80,25 @@ refused_still s a e h other =
     ap (λ z. next_state z (transition s a)) (state_past_port_still s a e h other) ∙ next_state_still s (transition s a) e h other
 
 -- an act that is refused does not reach the stage
-refused_off : (s : State) (a : Act) (e : Refusal) → answer s a ≡ answer_refused e → reaches_stage a ≡ false
+refused_off : (s : State) (a : Act) (e : Refusal) → answer s a ≡ answer_refused e → is_stage_act a ≡ false
 refused_off s (act_cycle i j) e h = cc
 refused_off s act_reset e h = cc
 refused_off s a e h = refl
 
 -- nor does one that stands in no gate's own list
-foreign_off : (k : ℕ) (s : State) (a : Act) → entries k (transition s a) ≡ [] → reaches_stage a ≡ false
+foreign_off : (k : ℕ) (s : State) (a : Act) → entries k (transition s a) ≡ [] → is_stage_act a ≡ false
 foreign_off k s (act_cycle i j) h = cc
 foreign_off k s act_reset h = cc
 foreign_off k s a h = refl
 
 module _ {S : Type 0} (m : Ghosts S) where
-  pairs_still : (s : State) (a : Act) (before : Pairs) → reaches_stage a ≡ false → shown_pairs m.STEP s a before ≡ before
+  pairs_still : (s : State) (a : Act) (before : Pairs) → is_stage_act a ≡ false → shown_pairs m.STEP s a before ≡ before
   pairs_still s a before off = ap (λ t. cond t (quantized_pairs m.STEP (given_pairs s a)) before) off
 
   -- what is shown after an act is what was last given, quantized
   pairs_given : (a : Act) (s : State) (given before : Pairs) → before ≡ quantized_pairs m.STEP given
-      → shown_pairs m.STEP s a before ≡ quantized_pairs m.STEP (cond (reaches_stage a) (given_pairs s a) given)
-  pairs_given a s given before h = go (reaches_stage a)
+      → shown_pairs m.STEP s a before ≡ quantized_pairs m.STEP (cond (is_stage_act a) (given_pairs s a) given)
+  pairs_given a s given before h = go (is_stage_act a)
     where
       go : (t : Bool) → cond t (quantized_pairs m.STEP (given_pairs s a)) before ≡ quantized_pairs m.STEP (cond t (given_pairs s a) given)
       go true = refl
@@ -107,7 +107,7 @@ module _ {S : Type 0} (m : Ghosts S) where
   pub performs : (a : Act) (x : Answer) (b c : Board S m) → x ≡ answer (state_of b.table) a
       → state_of c.table ≡ state_after_act (state_of b.table) a
       → m.pairs c.stage ≡ shown_pairs m.STEP (state_of b.table) a (m.pairs b.stage)
-      → (reaches_stage a ≡ false → c.stage ≡ b.stage) → Performs m a x b c
+      → (is_stage_act a ≡ false → c.stage ≡ b.stage) → Performs m a x b c
   performs a x b c answers state pairs stage = record {
     answers = answers;
     state = state;
@@ -120,12 +120,12 @@ module _ {S : Type 0} (m : Ghosts S) where
           stage = stage off;
           pairs = pairs ∙ pairs_still (state_of b.table) a (m.pairs b.stage) off;
         };
-    turns = subst (SetsCurrent (state_of b.table) a) (sym state) (turns (state_of b.table) a);
+    sets_current = subst (SetsCurrent (state_of b.table) a) (sym state) (turns (state_of b.table) a);
     spared = λ k l no.
         let off = foreign_off k (state_of b.table) a (no_entry k l (state_of b.table) a no) in
         record {
           record_stays = ap (λ z. gate_of z k) state ∙ spared_gate k l (state_of b.table) a no;
-          pair_stays = ap (λ p. pair_at p k) (pairs ∙ pairs_still (state_of b.table) a (m.pairs b.stage) off);
+          pair_stays = ap (λ p. axis_pair p k) (pairs ∙ pairs_still (state_of b.table) a (m.pairs b.stage) off);
         };
     packet = λ k l at taking no. ap (λ z. gate_of z k) state ∙ other_gate k l (state_of b.table) a at taking no;
     history = λ h came. record {

@@ -7,8 +7,8 @@ use Rattle.gate.specs.Events.{bit}
 use Rattle.gate.specs.Queries.{is_calling}
 use Rattle.board.specs.declared.command.Command.{Command}
 use Rattle.board.specs.declared.command.Command.TheVariants.{Status, Ask, Now, Word, Long, MultiUpdate}
-use Rattle.board.specs.declared.command.Whose.{Whose}
-use Rattle.board.specs.declared.command.Whose.TheVariants.{First, Second, Calling, Current}
+use Rattle.board.specs.declared.command.GateName.{GateName}
+use Rattle.board.specs.declared.command.GateName.TheVariants.{First, Second, Calling, Current}
 use Rattle.board.specs.declared.port.Port.{Port}
 use Rattle.board.specs.declared.port.Port.TheVariants.{Idle, TakingWord, TakingHigh, TakingLow, TakingGates, Giving}
 use Rattle.board.specs.declared.port.Incoming.{Incoming}
@@ -20,7 +20,7 @@ use Rattle.board.specs.declared.refusal.Refusal.TheVariants.{NoSlip}
 use Rattle.board.specs.Commands.{command_of}
 use Rattle.board.specs.Ports.{command_step, write_step, read_step, start_step, port_step}
 use Rattle.board.specs.Own.{OwnEntry, entry_reset, entry_cycle, entry_order, entry_word_order, entry_long_order, entry_query, entry_status, entry_take, entry_close, gate_after_list}
-use Rattle.board.specs.Acts.{State, gate_of, Act, act_command, act_write, act_read, act_cycle, act_reset, act_take, act_close, counts_gate, whose, caller, lendable, enter, entry_transition, refuse, multi_update, refuse_value, step_transition, transition, current_after, entries, state_after_act}
+use Rattle.board.specs.Acts.{State, gate_of, Act, act_command, act_write, act_read, act_cycle, act_reset, act_take, act_close, is_gate_counted, named_gate, caller, waiting_gate, enter, entry_transition, refuse, multi_update, refuse_value, step_transition, transition, current_after, entries, state_after_act}
 use Rattle.board.specs.Owners.{GivesCommand, IsLowest, is_waiting, IsNamed, Belongs, IsForeign, IsAtPort, SetsCurrent, GrowsByEntry}
 use Rattle.board.specs.Runs.{state_after}
 use Rattle.board.specs.Isolation.{own_list}
@@ -75,24 +75,24 @@ is_lowest test s (suc zero) l i =
     ap (λ a. cond a (Some 0) (cond (test s.two) (Some 1) None)) (i.lower 0 (omega arith)) ∙ ap (λ b. cond b (Some 1) None) i.passes
 is_lowest test s (suc (suc k)) l i = let no : ⊥ = omega arith in absurd no
 
-named_is : (k : ℕ) (s : State) (w : Whose) → whose s w ≡ Some k → IsNamed s w k
+named_is : (k : ℕ) (s : State) (w : GateName) → named_gate s w ≡ Some k → IsNamed s w k
 named_is k s First h = cc
 named_is k s Second h = cc
 named_is k s Calling h = (lowest_is is_calling s k h).1
 named_is k s Current h = cc
 
-whose_named : (k : ℕ) → k < 2 → (s : State) (w : Whose) → IsNamed s w k → whose s w ≡ Some k
+whose_named : (k : ℕ) → k < 2 → (s : State) (w : GateName) → IsNamed s w k → named_gate s w ≡ Some k
 whose_named k l s First h = ap Some (sym h)
 whose_named k l s Second h = ap Some (sym h)
 whose_named k l s Calling h = is_lowest is_calling s k l h
 whose_named k l s Current h = ap Some (sym h)
 
 -- the bit of gate k in a word of MULTI_UPDATE
-bit_counts : (w k : ℕ) → w < 4 → k < 2 → counts_gate w k ≡ bit w k
-bit_counts zero k h l = by_two (λ k. counts_gate 0 k ≡ bit 0 k) refl refl k l
-bit_counts (suc zero) k h l = by_two (λ k. counts_gate 1 k ≡ bit 1 k) refl refl k l
-bit_counts (suc (suc zero)) k h l = by_two (λ k. counts_gate 2 k ≡ bit 2 k) refl refl k l
-bit_counts (suc (suc (suc zero))) k h l = by_two (λ k. counts_gate 3 k ≡ bit 3 k) refl refl k l
+bit_counts : (w k : ℕ) → w < 4 → k < 2 → is_gate_counted w k ≡ bit w k
+bit_counts zero k h l = by_two (λ k. is_gate_counted 0 k ≡ bit 0 k) refl refl k l
+bit_counts (suc zero) k h l = by_two (λ k. is_gate_counted 1 k ≡ bit 1 k) refl refl k l
+bit_counts (suc (suc zero)) k h l = by_two (λ k. is_gate_counted 2 k ≡ bit 2 k) refl refl k l
+bit_counts (suc (suc (suc zero))) k h l = by_two (λ k. is_gate_counted 3 k ≡ bit 3 k) refl refl k l
 bit_counts (suc (suc (suc (suc w)))) k h l = let no : ⊥ = omega arith in absurd no
 
 abbrev AtMostOne : List OwnEntry → Type 0
@@ -150,7 +150,7 @@ module _ (k : ℕ) (l : k < 2) (s : State) where
       → entries k (step_transition s (command_step p c)) ≡ e ∷ []
       → Belongs k s (act_command b) e
   by_command b (Some (Status w)) Idle e d i h =
-      entry_if k (whose s w) (entry_status w) e (Belongs k s (act_command b)) (λ n. (record { code = b; act = refl; names = d; idle = i }, named_is k s w n)) h
+      entry_if k (named_gate s w) (entry_status w) e (Belongs k s (act_command b)) (λ n. (record { code = b; act = refl; names = d; idle = i }, named_is k s w n)) h
   by_command b (Some (Ask q)) Idle e d i h =
       entry_at k s.current (entry_query q) e (Belongs k s (act_command b)) (λ n. (record { code = b; act = refl; names = d; idle = i }, n)) h
   by_command b (Some (Now o)) Idle e d i h =
@@ -175,7 +175,7 @@ module _ (k : ℕ) (l : k < 2) (s : State) where
     where
       go : (t : Bool) → ltb w 4 ≡ t → entries k (cond t (multi_update w) refuse_value) ≡ e ∷ [] → Belongs k s (act_write w) e
       go true r h =
-          let t = tested (counts_gate w k) (entry_order Update) e h in
+          let t = tested (is_gate_counted w k) (entry_order Update) e h in
           let range = ltb-true w 4 r in
           subst (Belongs k s (act_write w)) t.1 (inr (record { word = w; act = refl; taking = i; range = range; counted = sym (bit_counts w k range l) ∙ t.0; order = refl }))
       go false r h = cc
@@ -197,7 +197,7 @@ module _ (k : ℕ) (l : k < 2) (s : State) where
   belongs (act_cycle i j) e h =
       subst (Belongs k s (act_cycle i j)) (tested true (entry_cycle (cond (eqb k 0) i j)) e h).1 (i, j, refl, refl)
   belongs act_reset e h = subst (Belongs k s act_reset) (tested true entry_reset e h).1 refl
-  belongs act_take e h = entry_if k (lendable s) entry_take e (Belongs k s act_take) (λ n. (refl, (lowest_is is_waiting s k n).1)) h
+  belongs act_take e h = entry_if k (waiting_gate s) entry_take e (Belongs k s act_take) (λ n. (refl, (lowest_is is_waiting s k n).1)) h
   belongs (act_close j w) e h = go (gate_of s j).slip refl h
     where
       go : (t : Bool) → (gate_of s j).slip ≡ t → entries k (cond t (enter j (entry_close w)) (refuse NoSlip)) ≡ e ∷ []
@@ -229,8 +229,8 @@ module _ (k : ℕ) (l : k < 2) (s : State) where
   stands a (entry_long_order o high low) b =
       write_stands a low (TakingLow o high) b.0 b.1 ∙ stands_at k s.current (entry_long_order o high low) b.2
   stands a (entry_query q) b = command_stands a (Ask q) b.0 ∙ stands_at k s.current (entry_query q) b.1
-  stands a (entry_status w) b = command_stands a (Status w) b.0 ∙ stands_if k (whose s w) (entry_status w) (whose_named k l s w b.1)
-  stands a entry_take b = ap (λ x. entries k (transition s x)) b.0 ∙ stands_if k (lendable s) entry_take (is_lowest is_waiting s k l b.1)
+  stands a (entry_status w) b = command_stands a (Status w) b.0 ∙ stands_if k (named_gate s w) (entry_status w) (whose_named k l s w b.1)
+  stands a entry_take b = ap (λ x. entries k (transition s x)) b.0 ∙ stands_if k (waiting_gate s) entry_take (is_lowest is_waiting s k l b.1)
   stands a (entry_close w) b =
       ap (λ x. entries k (transition s x)) b.0
       ∙ (ap (λ t. entries k (cond t (enter k (entry_close w)) (refuse NoSlip))) b.1 ∙ stands_at k k (entry_close w) refl)
@@ -241,7 +241,7 @@ module _ (k : ℕ) (l : k < 2) (s : State) where
   at_most_one act_read = by_step single k s (port_step s.port incoming.Read)
   at_most_one (act_cycle i j) = inr (entry_cycle (cond (eqb k 0) i j), refl)
   at_most_one act_reset = inr (entry_reset, refl)
-  at_most_one act_take = by_if single k (lendable s) entry_take (inr (entry_take, refl))
+  at_most_one act_take = by_if single k (waiting_gate s) entry_take (inr (entry_take, refl))
   at_most_one (act_close j w) = go (gate_of s j).slip
     where
       go : (t : Bool) → AtMostOne (entries k (cond t (enter j (entry_close w)) (refuse NoSlip)))
@@ -267,7 +267,7 @@ module _ (k : ℕ) (l : k < 2) (s : State) where
       go true e = absurd (apart (sym (eqb-true s.current k e)))
       go false e = refl
 
-  off_status : (o : Option ℕ) (w : Whose) → gate_after_list (entries k (entry_transition o (entry_status w))) (gate_of s k) ≡ gate_of s k
+  off_status : (o : Option ℕ) (w : GateName) → gate_after_list (entries k (entry_transition o (entry_status w))) (gate_of s k) ≡ gate_of s k
   off_status (Some j) w = go (eqb j k)
     where
       go : (t : Bool) → gate_after_list (cond t (entry_status w ∷ []) []) (gate_of s k) ≡ gate_of s k
@@ -279,7 +279,7 @@ module _ (k : ℕ) (l : k < 2) (s : State) where
       → gate_after_list (entries k (step_transition s r)) (gate_of s k) ≡ gate_of s k
   off_step (Err e) gates apart = refl
   off_step (Ok step.Wait) gates apart = refl
-  off_step (Ok (step.View w)) gates apart = off_status (whose s w) w
+  off_step (Ok (step.View w)) gates apart = off_status (named_gate s w) w
   off_step (Ok (step.Ask q)) gates apart = off_current (entry_query q) apart
   off_step (Ok (step.Run o)) gates apart = off_current (entry_order o) apart
   off_step (Ok (step.Word o w)) gates apart = off_current (entry_word_order o w) apart
@@ -298,7 +298,7 @@ module _ (k : ℕ) (l : k < 2) (s : State) where
 
 -- which gate is current
 current_stays : (s : State) (b : ℕ) (c : Option Command) (p : Port) → command_of b ≡ c → s.port ≡ p
-    → ((k : ℕ) → k < 2 → (w : Whose) → Belongs k s (act_command b) (entry_status w) → ⊥)
+    → ((k : ℕ) → k < 2 → (w : GateName) → Belongs k s (act_command b) (entry_status w) → ⊥)
     → current_after s.current (step_transition s (command_step p c)) ≡ s.current
 current_stays s b (Some (Status First)) Idle d i foreign = absurd (foreign 0 (omega arith) First (record { code = b; act = refl; names = d; idle = i }, refl))
 current_stays s b (Some (Status Second)) Idle d i foreign = absurd (foreign 1 (omega arith) Second (record { code = b; act = refl; names = d; idle = i }, refl))
@@ -353,14 +353,14 @@ turns s a = record {
   stays = by a;
 }
   where
-    by : (a : Act) → a ≢ act_reset → ((k : ℕ) → k < 2 → (w : Whose) → Belongs k s a (entry_status w) → ⊥)
+    by : (a : Act) → a ≢ act_reset → ((k : ℕ) → k < 2 → (w : GateName) → Belongs k s a (entry_status w) → ⊥)
         → (state_after_act s a).current ≡ s.current
     by (act_command b) other foreign = current_stays s b (command_of b) s.port refl refl foreign
     by (act_write w) other foreign = write_stays s s.port w
     by act_read other foreign = read_stays s s.port
     by (act_cycle i j) other foreign = refl
     by act_reset other foreign = absurd (other refl)
-    by act_take other foreign = go (lendable s)
+    by act_take other foreign = go (waiting_gate s)
       where
         go : (o : Option ℕ) → current_after s.current (entry_transition o entry_take) ≡ s.current
         go (Some j) = refl

@@ -5,8 +5,8 @@ use Rattle.stage.specs.Pairs.{Pairs}
 use Rattle.board.specs.declared.board.Board.{Board}
 use Rattle.board.specs.Own.{Answer}
 use Rattle.board.specs.Acts.{State, state_of, Act, state_after_act}
-use Rattle.board.specs.Runs.{new_state, state_after, reaches_stage, shown_pairs, Performs}
-use Rattle.board.specs.Sequences.{state_from, any_reaches_stage, pairs_from, PerformsAll}
+use Rattle.board.specs.Runs.{new_state, state_after, is_stage_act, shown_pairs, Performs}
+use Rattle.board.specs.Sequences.{state_from, has_stage_act, pairs_from, PerformsAll}
 
 -- from a new board they lead where its history leads
 pub from_new : (acts : List Act) → state_from new_state acts ≡ state_after acts
@@ -32,14 +32,14 @@ right_no : (a b : Bool) → (a || b) ≡ false → b ≡ false
 right_no true b h = cc
 right_no false b h = h
 
-late_no : (late early : List Act) → any_reaches_stage (late ++ early) ≡ false → any_reaches_stage late ≡ false
+late_no : (late early : List Act) → has_stage_act (late ++ early) ≡ false → has_stage_act late ≡ false
 late_no [] early h = refl
 late_no (a ∷ late) early h =
-    ap (λ x. x || any_reaches_stage late) (left_no (reaches_stage a) _ h) ∙ late_no late early (right_no (reaches_stage a) _ h)
+    ap (λ x. x || has_stage_act late) (left_no (is_stage_act a) _ h) ∙ late_no late early (right_no (is_stage_act a) _ h)
 
-early_no : (late early : List Act) → any_reaches_stage (late ++ early) ≡ false → any_reaches_stage early ≡ false
+early_no : (late early : List Act) → has_stage_act (late ++ early) ≡ false → has_stage_act early ≡ false
 early_no [] early h = h
-early_no (a ∷ late) early h = early_no late early (right_no (reaches_stage a) _ h)
+early_no (a ∷ late) early h = early_no late early (right_no (is_stage_act a) _ h)
 
 module _ {S : Type 0} (m : Ghosts S) where
   -- no act
@@ -49,7 +49,7 @@ module _ {S : Type 0} (m : Ghosts S) where
   -- one act
   pub performed_one : (a : Act) (x : Answer) (b c : Board S m) → Performs m a x b c → PerformsAll m (a ∷ []) b c
   performed_one a x b c d =
-      record { state = d.state; pairs = d.pairs; stage = λ e. d.stage (left_no (reaches_stage a) false e); history = d.history }
+      record { state = d.state; pairs = d.pairs; stage = λ e. d.stage (left_no (is_stage_act a) false e); history = d.history }
 
   -- one list after another
   pub performed_lists : (late early : List Act) (b c d : Board S m) → PerformsAll m early b c → PerformsAll m late c d

@@ -3,12 +3,12 @@ use Rattle.std.proofs.Common.{◌≡◌, ℕ, ◌<◌, true, cond, Some, None, O
 use Rattle.board.specs.declared.refusal.Refusal.{Refusal}
 use Rattle.board.specs.declared.refusal.Refusal.TheVariants.{NoSlip}
 use Rattle.board.specs.Own.{entry_take, entry_close, answer_refused, answer_slip, answer_done}
-use Rattle.board.specs.Acts.{State, gate_of, lendable, enter, entry_transition, refuse, next_state, transition_answer, state_after_act, answer, act_take, act_close}
+use Rattle.board.specs.Acts.{State, gate_of, waiting_gate, enter, entry_transition, refuse, next_state, transition_answer, state_after_act, answer, act_take, act_close}
 use Rattle.board.proofs.Tables.{by_two}
 
 -- the gate of a slip that is taken is the one that waited
-pub taken_gate : (s : State) (k : ℕ) → answer_slip k ≡ answer s act_take → Some k ≡ lendable s
-taken_gate s k h = go (lendable s) h
+pub taken_gate : (s : State) (k : ℕ) → answer_slip k ≡ answer s act_take → Some k ≡ waiting_gate s
+taken_gate s k h = go (waiting_gate s) h
   where
     go : (o : Option ℕ) → answer_slip k ≡ transition_answer s (entry_transition o entry_take) → Some k ≡ o
     go (Some j) h = cc
@@ -33,8 +33,8 @@ closes s z k w e l took is h =
     omega arith
 
 -- a take that is refused found no gate that waits
-pub taken_none : (s : State) (e : Refusal) → answer_refused e ≡ answer s act_take → lendable s ≡ None
-taken_none s e h = go (lendable s) h
+pub taken_none : (s : State) (e : Refusal) → answer_refused e ≡ answer s act_take → waiting_gate s ≡ None
+taken_none s e h = go (waiting_gate s) h
   where
     go : (o : Option ℕ) → answer_refused e ≡ transition_answer s (entry_transition o entry_take) → o ≡ None
     go (Some j) h = cc

@@ -9,7 +9,7 @@ use Rattle.gate.specs.Cycles.{cycle, gate_phases}
 use Rattle.stage.specs.Pairs.{Pair}
 use Rattle.board.specs.declared.refusal.Refusal.TheVariants.{NoSlip, OutOfRange}
 use Rattle.board.specs.declared.table.Table.{Table}
-use Rattle.board.specs.Acts.{blank_gate, state_of, gate_of, lendable, enter, entry_transition, refuse, next_state, transition_answer, state_after_act, answer as answered, act_cycle, act_take, act_close, current_after_entry, port_after_entry, act_answer, IsSoundTable}
+use Rattle.board.specs.Acts.{blank_gate, state_of, gate_of, waiting_gate, enter, entry_transition, refuse, next_state, transition_answer, state_after_act, answer as answered, act_cycle, act_take, act_close, current_after_entry, port_after_entry, act_answer, IsSoundTable}
 use Rattle.board.specs.Own.{OwnEntry, Answer, entry_take, entry_close, answer_done, answer_refused, answer_slip, gate_after, gate_after_list, order_answer}
 
 -- what holds of both gates holds of each
@@ -113,7 +113,7 @@ module _ (t u : Table) (x y : Gate) (two_long : length t.gates ≡ 2) (gates : u
   both_fit f c p q = record { current = c; one = subst IsSound (sym both_are.0) p; two = subst IsSound (sym both_are.1) q }
 
 -- a slip that is taken
-module _ (t : Table) (k : ℕ) (e : Some k ≡ lendable (state_of t)) where
+module _ (t : Table) (k : ℕ) (e : Some k ≡ waiting_gate (state_of t)) where
   pub take_answer : answer_slip k ≡ answered (state_of t) act_take
   take_answer = ap (λ o. transition_answer (state_of t) (entry_transition o entry_take)) e
 

@@ -5,12 +5,12 @@ use Rattle.gate.specs.declared.orders.Order.TheVariants.{Update}
 use Rattle.gate.specs.declared.orders.WordOrder.{WordOrder}
 use Rattle.gate.specs.declared.orders.LongOrder.{LongOrder}
 use Rattle.gate.specs.declared.queries.Query.{Query}
-use Rattle.board.specs.declared.command.Whose.{Whose}
+use Rattle.board.specs.declared.command.GateName.{GateName}
 use Rattle.board.specs.declared.port.Step.{Step}
 use Rattle.board.specs.declared.port.Step.TheVariants as step
 use Rattle.board.specs.declared.refusal.Refusal.{Refusal}
 use Rattle.board.specs.Own.{OwnEntry, entry_order, entry_word_order, entry_long_order, entry_query, entry_status}
-use Rattle.board.specs.Acts.{State, counts_gate, whose, entry_transition, step_transition, multi_update, refuse_value, entries}
+use Rattle.board.specs.Acts.{State, is_gate_counted, named_gate, entry_transition, step_transition, multi_update, refuse_value, entries}
 
 -- P holds of no entry, of each order alone and of each question alone
 pub record Ordinary (P : List OwnEntry → Type 0) : Type 0 where
@@ -19,7 +19,7 @@ pub record Ordinary (P : List OwnEntry → Type 0) : Type 0 where
   pub words : (o : WordOrder) (w : ℕ) → P (entry_word_order o w ∷ [])
   pub longs : (o : LongOrder) (high low : ℕ) → P (entry_long_order o high low ∷ [])
   pub asks : (q : Query) → P (entry_query q ∷ [])
-  pub views : (w : Whose) → P (entry_status w ∷ [])
+  pub views : (w : GateName) → P (entry_status w ∷ [])
 
 -- then it holds of all that comes about at the port, and of an entry that may come about, where it holds of that alone
 module _ {P : List OwnEntry → Type 0} (o : Ordinary P) where
@@ -35,7 +35,7 @@ module _ {P : List OwnEntry → Type 0} (o : Ordinary P) where
   pub by_step : (k : ℕ) (s : State) (r : Result Step Refusal) → P (entries k (step_transition s r))
   by_step k s (Err r) = o.none
   by_step k s (Ok step.Wait) = o.none
-  by_step k s (Ok (step.View w)) = by_if k (whose s w) (entry_status w) (o.views w)
+  by_step k s (Ok (step.View w)) = by_if k (named_gate s w) (entry_status w) (o.views w)
   by_step k s (Ok (step.Ask q)) = by_one (eqb s.current k) (entry_query q) (o.asks q)
   by_step k s (Ok (step.Run n)) = by_one (eqb s.current k) (entry_order n) (o.orders n)
   by_step k s (Ok (step.Word n w)) = by_one (eqb s.current k) (entry_word_order n w) (o.words n w)
@@ -43,6 +43,6 @@ module _ {P : List OwnEntry → Type 0} (o : Ordinary P) where
   by_step k s (Ok (step.Gates w)) = by_gates (ltb w 4)
     where
       by_gates : (t : Bool) → P (entries k (cond t (multi_update w) refuse_value))
-      by_gates true = by_one (counts_gate w k) (entry_order Update) (o.orders Update)
+      by_gates true = by_one (is_gate_counted w k) (entry_order Update) (o.orders Update)
       by_gates false = o.none
   by_step k s (Ok (step.Give w)) = o.none

@@ -10,8 +10,8 @@ use Rattle.gate.specs.Events.{no_events}
 use Rattle.wave.specs.declared.phases.MotorKind.TheVariants.{TwoPhase}
 use Rattle.gate.specs.Queries.{query_answer, is_calling, status_word}
 use Rattle.gate.specs.Sound.{IsSound}
-use Rattle.board.specs.declared.command.Whose.{Whose}
-use Rattle.board.specs.declared.command.Whose.TheVariants.{First, Second, Calling, Current}
+use Rattle.board.specs.declared.command.GateName.{GateName}
+use Rattle.board.specs.declared.command.GateName.TheVariants.{First, Second, Calling, Current}
 use Rattle.board.specs.declared.port.Port.{Port}
 use Rattle.board.specs.declared.port.Port.TheVariants.{Idle, Giving}
 use Rattle.board.specs.declared.port.Incoming.TheVariants as incoming
@@ -82,14 +82,14 @@ abbrev pub caller : State → Option ℕ
 caller s = cond (is_calling s.one) (Some 0) (cond (is_calling s.two) (Some 1) None)
 
 -- the lowest-numbered gate that calls and has no slip out
-abbrev pub lendable : State → Option ℕ
-lendable s = cond (is_calling s.one && not s.one.slip) (Some 0) (cond (is_calling s.two && not s.two.slip) (Some 1) None)
+abbrev pub waiting_gate : State → Option ℕ
+waiting_gate s = cond (is_calling s.one && not s.one.slip) (Some 0) (cond (is_calling s.two && not s.two.slip) (Some 1) None)
 
-abbrev pub whose : State → Whose → Option ℕ
-whose s First = Some 0
-whose s Second = Some 1
-whose s Calling = caller s
-whose s Current = Some s.current
+abbrev pub named_gate : State → GateName → Option ℕ
+named_gate s First = Some 0
+named_gate s Second = Some 1
+named_gate s Calling = caller s
+named_gate s Current = Some s.current
 
 abbrev pub entry_transition : Option ℕ → OwnEntry → Transition
 entry_transition (Some k) e = enter k e
@@ -99,7 +99,7 @@ entry_transition None e = refuse NoCall
 abbrev pub step_transition : State → Result Step Refusal → Transition
 step_transition s (Err r) = refuse r
 step_transition s (Ok step.Wait) = wait
-step_transition s (Ok (step.View w)) = entry_transition (whose s w) (entry_status w)
+step_transition s (Ok (step.View w)) = entry_transition (named_gate s w) (entry_status w)
 step_transition s (Ok (step.Ask q)) = enter s.current (entry_query q)
 step_transition s (Ok (step.Run o)) = enter s.current (entry_order o)
 step_transition s (Ok (step.Word o w)) = enter s.current (entry_word_order o w)
@@ -113,7 +113,7 @@ transition s (act_write w) = step_transition s (port_step s.port (incoming.Write
 transition s act_read = step_transition s (port_step s.port incoming.Read)
 transition s (act_cycle i j) = cycle_both i j
 transition s act_reset = reset_both
-transition s act_take = entry_transition (lendable s) entry_take
+transition s act_take = entry_transition (waiting_gate s) entry_take
 transition s (act_close k w) = cond (gate_of s k).slip (enter k (entry_close w)) (refuse NoSlip)
 
 -- the state with the port moved on by what an act brings to it
@@ -124,13 +124,13 @@ state_past_port s act_read = record s { port = port_after_incoming s.port incomi
 state_past_port s a = s
 
 -- whether a word of MULTI_UPDATE counts gate k: bit 0 for gate 1, bit 1 for gate 2
-abbrev pub counts_gate : ℕ → ℕ → Bool
-counts_gate w k = cond (k == 0) (w % 2 == 1) (w / 2 == 1)
+abbrev pub is_gate_counted : ℕ → ℕ → Bool
+is_gate_counted w k = cond (k == 0) (w % 2 == 1) (w / 2 == 1)
 
 -- what of a transition stands in the own list of gate k
 abbrev pub entries : ℕ → Transition → List OwnEntry
 entries k (enter j e) = cond (j == k) (e ∷ []) []
-entries k (multi_update w) = cond (counts_gate w k) (entry_order Update ∷ []) []
+entries k (multi_update w) = cond (is_gate_counted w k) (entry_order Update ∷ []) []
 entries k (cycle_both i j) = entry_cycle (cond (k == 0) i j) ∷ []
 entries k reset_both = entry_reset ∷ []
 entries k m = []
@@ -193,9 +193,9 @@ abbrev pub answer_of_word : Result ℕ Refusal → Answer
 answer_of_word (Ok w) = answer_word w
 answer_of_word (Err e) = answer_refused e
 
-abbrev pub answer_of_gate : Result ℕ Refusal → Answer
-answer_of_gate (Ok k) = answer_slip k
-answer_of_gate (Err e) = answer_refused e
+abbrev pub answer_of_axis : Result ℕ Refusal → Answer
+answer_of_axis (Ok k) = answer_slip k
+answer_of_axis (Err e) = answer_refused e
 
 -- a table that a board may hold
 pub record IsSoundTable (t : Table) : Type 0 where
@@ -207,6 +207,6 @@ pub record IsSoundTable (t : Table) : Type 0 where
 unfoldable pub HasSoundTable : Table → Type 0
 HasSoundTable t = IsSoundTable t
 
-pub has_sound_table_once : (t : Table) → IsProp (HasSoundTable t)
+pub HasSoundTable-prop : (t : Table) → IsProp (HasSoundTable t)
 unfolding HasSoundTable
-has_sound_table_once t = Prim.hlevel props
+HasSoundTable-prop t = Prim.hlevel props

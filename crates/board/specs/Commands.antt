@@ -8,7 +8,7 @@ use Rattle.gate.specs.declared.orders.Order.TheVariants.{Mode, Stop, Update, Aut
 use Rattle.gate.specs.declared.orders.WordOrder.TheVariants as word
 use Rattle.gate.specs.declared.orders.LongOrder.TheVariants as long
 use Rattle.gate.specs.declared.queries.Query.TheVariants as query
-use Rattle.board.specs.declared.command.Whose.TheVariants.{First, Second, Calling, Current}
+use Rattle.board.specs.declared.command.GateName.TheVariants.{First, Second, Calling, Current}
 use Rattle.board.specs.declared.command.Command.{Command}
 use Rattle.board.specs.declared.refusal.Refusal.{Refusal}
 use Rattle.board.specs.declared.refusal.Refusal.TheVariants.{Unknown}
@@ -35,12 +35,12 @@ code_table b =
     (cond (b == 0x1e) (Some (Ask query.TargetVelocity))
     (cond (b == 0x2f) (Some (Word word.Mask))
     (cond (b == 0x31) (Some (Status Current))
-    (cond (b == 0x34) (Some (Word word.Status))
+    (cond (b == 0x34) (Some (Word word.ClearEvents))
     (cond (b == 0x35) (Some (Now (Break break.Complete)))
     (cond (b == 0x37) (Some (Ask query.ActualPosition))
-    (cond (b == 0x3e) (Some (Ask query.CycleTime))
+    (cond (b == 0x3e) (Some (Ask query.ClockTime))
     (cond (b == 0x46) (Some (Now Stop))
-    (cond (b == 0x4a) (Some (Ask query.Position))
+    (cond (b == 0x4a) (Some (Ask query.Destination))
     (cond (b == 0x4b) (Some (Ask query.Velocity))
     (cond (b == 0x4c) (Some (Ask query.Acceleration))
     (cond (b == 0x4d) (Some (Long long.Actual))
@@ -68,7 +68,7 @@ Encodes c b = code_table b ≡ Some c
 
 -- the words that a packet takes
 abbrev pub takes : Command → ℕ
-takes (Status whose) = 0
+takes (Status named) = 0
 takes (Ask q) = 0
 takes (Now o) = 0
 takes (Word o) = 1
@@ -77,7 +77,7 @@ takes MultiUpdate = 1
 
 -- the words that it gives
 abbrev pub gives : Command → ℕ
-gives (Status whose) = 1
+gives (Status named) = 1
 gives (Ask q) = 2
 gives (Now o) = 0
 gives (Word o) = 0

@@ -10,8 +10,8 @@ use Rattle.gate.specs.declared.orders.Order.TheVariants.{Mode, Stop, Update, Aut
 use Rattle.gate.specs.declared.orders.LongOrder.{LongOrder}
 use Rattle.gate.specs.declared.orders.LongOrder.TheVariants as long
 use Rattle.gate.specs.declared.profile.Profile.{Profile}
-use Rattle.gate.specs.Cycles.{tick, encode, trip, meets}
-use Rattle.gate.specs.Orders.{long_fits}
+use Rattle.gate.specs.Cycles.{tick, add_count, trip, is_breakpoint_met}
+use Rattle.gate.specs.Orders.{is_long_in_range}
 use Rattle.gate.specs.Profile.{first_profile}
 use Rattle.board.specs.declared.port.Port.{Port}
 use Rattle.board.specs.declared.port.Port.TheVariants.{Idle, TakingWord, TakingHigh, TakingLow, TakingGates, Giving}
@@ -19,7 +19,7 @@ use Rattle.board.specs.declared.board.Board.{Board}
 use Rattle.board.specs.Own.{OwnEntry, entry_reset, entry_cycle, entry_order, entry_word_order, entry_long_order, entry_query, entry_status, entry_take, entry_close, Answer, answer_done, answer_words, join, gate_by_own_list}
 use Rattle.board.specs.Acts.{State, state_of, gate_of, Act, Transition, transition, entries, port_after, transition_answer}
 use Rattle.board.specs.Owners.{GrowsByEntry}
-use Rattle.board.specs.Runs.{state_after, pair_at, ReachedBy}
+use Rattle.board.specs.Runs.{state_after, axis_pair, IsReachedBy}
 
 -- the own list of gate k, 0 for gate 1 and 1 for gate 2: what of each act stands in it, the newest first
 abbrev pub own_list : ℕ → List Act → List OwnEntry
@@ -71,17 +71,17 @@ book_after_long long.Acceleration v b = record b { loaded = record b.loaded { ac
 book_after_long o v b = b
 
 -- a cycle latches where its breakpoint is met while auto update is on
-abbrev pub latches : Inputs → Gate → Bool
-latches i g = meets i.home (trip i (encode i.count (tick g))) && g.breakpoint.auto
+abbrev pub is_latching_cycle : Inputs → Gate → Bool
+is_latching_cycle i g = is_breakpoint_met i.home (trip i (add_count i.count (tick g))) && g.breakpoint.auto
 
 -- the book by an own list: a command that runs and loads sets the loaded value, an UPDATE and a cycle that latches copy the loaded to
 -- the latched values, a reset begins anew, and nothing else changes it
 abbrev pub book : List OwnEntry → Book
 book [] = new_book
 book (entry_reset ∷ es) = new_book
-book (entry_cycle i ∷ es) = cond (latches i (gate_by_own_list es)) (book_after_latch (book es)) (book es)
+book (entry_cycle i ∷ es) = cond (is_latching_cycle i (gate_by_own_list es)) (book_after_latch (book es)) (book es)
 book (entry_order o ∷ es) = book_after_order o (book es)
-book (entry_long_order o high low ∷ es) = cond (long_fits o (join high low)) (book_after_long o (join high low) (book es)) (book es)
+book (entry_long_order o high low ∷ es) = cond (is_long_in_range o (join high low)) (book_after_long o (join high low) (book es)) (book es)
 book (e ∷ es) = book es
 
 -- two numbers are less than d apart
@@ -96,18 +96,18 @@ EachEntryBelongs = (k : ℕ) → k < 2 → (a : Act) → (h : List Act) → Grow
 -- one board alone: the active registers of each gate are those latched in the book of its own list
 module _ {S : Type 0} (m : Ghosts S) (b : Board S m) where
   abbrev pub FollowsBook : Type 0
-  FollowsBook = (k : ℕ) → k < 2 → (h : List Act) → ReachedBy m h b → (gate_of (state_of b.table) k).active ≡ (book (own_list k h)).latched
+  FollowsBook = (k : ℕ) → k < 2 → (h : List Act) → IsReachedBy m h b → (gate_of (state_of b.table) k).active ≡ (book (own_list k h)).latched
 
 module _ {S R : Type 0} (m : Ghosts S) (b : Board S m) (n : Ghosts R) (d : Board R n) where
   -- what two boards that are reached by h and by i have in common of gate k
   pub record IsAlike (k : ℕ) (h i : List Act) : Type 0 where
     pub record_same : gate_of (state_of b.table) k ≡ gate_of (state_of d.table) k
     pub answers_same : own_answers k h ≡ own_answers k i
-    pub pairs_same : m.STEP ≡ n.STEP → pair_at (m.pairs b.stage) k ≡ pair_at (n.pairs d.stage) k
-    pub near_a : DifferByLessThan (max m.STEP n.STEP) (pair_at (m.pairs b.stage) k).0 (pair_at (n.pairs d.stage) k).0
-    pub near_b : DifferByLessThan (max m.STEP n.STEP) (pair_at (m.pairs b.stage) k).1 (pair_at (n.pairs d.stage) k).1
+    pub pairs_same : m.STEP ≡ n.STEP → axis_pair (m.pairs b.stage) k ≡ axis_pair (n.pairs d.stage) k
+    pub near_phase_a : DifferByLessThan (max m.STEP n.STEP) (axis_pair (m.pairs b.stage) k).0 (axis_pair (n.pairs d.stage) k).0
+    pub near_phase_b : DifferByLessThan (max m.STEP n.STEP) (axis_pair (m.pairs b.stage) k).1 (axis_pair (n.pairs d.stage) k).1
     pub latched : (gate_of (state_of b.table) k).active ≡ (book (own_list k h)).latched
 
   -- what one gate does and answers hangs on its own list alone, whatever lists of acts the two boards are reached by
   abbrev pub IsIsolated : Type 0
-  IsIsolated = (k : ℕ) → k < 2 → (h i : List Act) → ReachedBy m h b → ReachedBy n i d → own_list k h ≡ own_list k i → IsAlike k h i
+  IsIsolated = (k : ℕ) → k < 2 → (h i : List Act) → IsReachedBy m h b → IsReachedBy n i d → own_list k h ≡ own_list k i → IsAlike k h i

@@ -8,10 +8,10 @@ use Rattle.gate.specs.declared.orders.LongOrder.{LongOrder}
 use Rattle.gate.specs.declared.queries.Query.{Query}
 use Rattle.gate.specs.Cycles.{cycle}
 use Rattle.gate.specs.Events.{keep}
-use Rattle.gate.specs.Gates.{fresh, with_events, with_slip}
-use Rattle.gate.specs.Orders.{run, run_word, run_long, word_fits, long_fits}
+use Rattle.gate.specs.Gates.{fresh_gate, with_events, with_slip}
+use Rattle.gate.specs.Orders.{run, run_word, run_long, is_word_in_range, is_long_in_range}
 use Rattle.gate.specs.Queries.{query_answer, status_word}
-use Rattle.board.specs.declared.command.Whose.{Whose}
+use Rattle.board.specs.declared.command.GateName.{GateName}
 use Rattle.board.specs.declared.refusal.Refusal.{Refusal}
 use Rattle.board.specs.declared.refusal.Refusal.TheVariants.{OutOfRange}
 
@@ -24,7 +24,7 @@ pub data OwnEntry : Type 0 where
   entry_word_order : WordOrder → ℕ → OwnEntry
   entry_long_order : LongOrder → ℕ → ℕ → OwnEntry
   entry_query : Query → OwnEntry
-  entry_status : Whose → OwnEntry
+  entry_status : GateName → OwnEntry
   entry_take : OwnEntry
   entry_close : ℕ → OwnEntry
 
@@ -42,7 +42,7 @@ join high low = high * 65536 + low
 
 -- the record after an entry
 abbrev pub gate_after : Gate → OwnEntry → Gate
-gate_after g entry_reset = fresh g.slip
+gate_after g entry_reset = fresh_gate g.slip
 gate_after g (entry_cycle i) = cycle i g
 gate_after g (entry_order o) = run o g
 gate_after g (entry_word_order o w) = run_word o w g
@@ -65,8 +65,8 @@ abbrev pub entry_answer : ℕ → Gate → OwnEntry → Answer
 entry_answer k g entry_reset = answer_done
 entry_answer k g (entry_cycle i) = answer_done
 entry_answer k g (entry_order o) = answer_done
-entry_answer k g (entry_word_order o w) = order_answer (word_fits o w)
-entry_answer k g (entry_long_order o high low) = order_answer (long_fits o (join high low))
+entry_answer k g (entry_word_order o w) = order_answer (is_word_in_range o w)
+entry_answer k g (entry_long_order o high low) = order_answer (is_long_in_range o (join high low))
 entry_answer k g (entry_query q) = two_word_answer (query_answer q g)
 entry_answer k g (entry_status w) = answer_words (status_word k g) []
 entry_answer k g entry_take = answer_slip k
@@ -79,4 +79,4 @@ gate_after_list (e ∷ es) g = gate_after (gate_after_list es g) e
 
 -- a gate by its own list, from a new board
 abbrev pub gate_by_own_list : List OwnEntry → Gate
-gate_by_own_list es = gate_after_list es (fresh false)
+gate_by_own_list es = gate_after_list es (fresh_gate false)

@@ -8,8 +8,8 @@ use Rattle.gate.specs.Events.{bit}
 use Rattle.gate.specs.Queries.{is_calling}
 use Rattle.board.specs.declared.command.Command.{Command}
 use Rattle.board.specs.declared.command.Command.TheVariants.{Status, Ask, Now}
-use Rattle.board.specs.declared.command.Whose.{Whose}
-use Rattle.board.specs.declared.command.Whose.TheVariants.{First, Second, Calling, Current}
+use Rattle.board.specs.declared.command.GateName.{GateName}
+use Rattle.board.specs.declared.command.GateName.TheVariants.{First, Second, Calling, Current}
 use Rattle.board.specs.declared.port.Port.TheVariants.{Idle, TakingWord, TakingLow, TakingGates}
 use Rattle.board.specs.Commands.{command_of}
 use Rattle.board.specs.Own.{OwnEntry, entry_reset, entry_cycle, entry_order, entry_word_order, entry_long_order, entry_query, entry_status, entry_take, entry_close}
@@ -41,7 +41,7 @@ abbrev pub is_waiting : Gate → Bool
 is_waiting g = is_calling g && not g.slip
 
 -- the gate whose status is asked
-abbrev pub IsNamed : State → Whose → ℕ → Type 0
+abbrev pub IsNamed : State → GateName → ℕ → Type 0
 IsNamed s First k = k ≡ 0
 IsNamed s Second k = k ≡ 1
 IsNamed s Calling k = IsLowest is_calling s k
@@ -75,8 +75,8 @@ IsAtPort a = ⊥
 -- which gate is current after an act: gate 1 after a reset, the gate whose status is given, and else the one that was
 pub record SetsCurrent (s : State) (a : Act) (z : State) : Type 0 where
   pub reset : a ≡ act_reset → z.current ≡ 0
-  pub status : (k : ℕ) → k < 2 → (w : Whose) → Belongs k s a (entry_status w) → z.current ≡ k
-  pub stays : a ≢ act_reset → ((k : ℕ) → k < 2 → (w : Whose) → Belongs k s a (entry_status w) → ⊥) → z.current ≡ s.current
+  pub status : (k : ℕ) → k < 2 → (w : GateName) → Belongs k s a (entry_status w) → z.current ≡ k
+  pub stays : a ≢ act_reset → ((k : ℕ) → k < 2 → (w : GateName) → Belongs k s a (entry_status w) → ⊥) → z.current ≡ s.current
 
 -- an own list before and after an act: it grows by the entry that belongs to it, and by nothing else
 pub record GrowsByEntry (k : ℕ) (s : State) (a : Act) (before after : List OwnEntry) : Type 0 where

@@ -1,4 +1,4 @@
-ghost use Rattle.board.specs.Acts.{HasSoundTable, has_sound_table_once};
+ghost use Rattle.board.specs.Acts.{HasSoundTable, HasSoundTable-prop};
 
 use crate::port::Port;
 use crate::refusal::Refusal;
@@ -16,21 +16,21 @@ pub mod compare;
 pub struct Board<S: Stage + Drop> {
     table: Table,
     stage: S,
-    ghost fit: { HasSoundTable table } by { has_sound_table_once table },
+    ghost sound: { HasSoundTable table } by { HasSoundTable-prop table },
 }
 
 impl<S: Stage + Drop> Board<S> {
     ghost use Rattle.std.specs.Prelude.{◌≡◌, true, false, [], Ok, Err, ◌-◌, IfSome, MatchOption};
     ghost use Rattle.board.specs.Own.{answer_done};
     ghost use Rattle.board.specs.Acts.{answer_of_unit, answer_of_word, act_command, act_write, act_read, act_cycle, act_reset, act_take, act_close, state_of, gate_of};
-    ghost use Rattle.board.specs.Runs.{ReachedBy, Performs, answer_of_slip, answer_of_close};
+    ghost use Rattle.board.specs.Runs.{IsReachedBy, Performs, answer_of_slip, answer_of_close};
     ghost use Rattle.gate.specs.Sound.{IsSound};
     ghost use Rattle.stage.specs.Pairs.{is_gate, pair_of};
 
     /// A new board over a stage, as after a reset: both gates as new, gate 1 current, the port idle, 0, 0 shown for both, no slip out.
     #[tactic(auto, unfolding(crate::specs::Acts::HasSoundTable))]
     pub fn new(stage: S) -> Board<S>
-        ensures { ReachedBy S.Stage [] result }
+        ensures { IsReachedBy S.Stage [] result }
     {
         let mut stage = stage;
         stage.show(1, 0, 0);
@@ -99,22 +99,22 @@ impl<S: Stage + Drop> Board<S> {
     /// nothing changes.
     #[tactic(auto, unfolding(crate::specs::Acts::HasSoundTable))]
     pub fn take(&mut self) -> Result<Slip, Refusal>
-        ensures did { Performs S.Stage act_take (answer_of_slip result) self.old self.new }
+        ensures performs { Performs S.Stage act_take (answer_of_slip result) self.old self.new }
         ensures unspent { elim result [ Ok s ↦ s.spent ≡ false | Err e ↦ Unit {0} ] }
     {
-        let gate = self.table.take()?;
-        Ok(Slip { gate, spent: false })
+        let axis = self.table.take()?;
+        Ok(Slip { axis, spent: false })
     }
 
     /// Takes a slip back, and clears the event bits of its gate whose places hold 0 in the word, as RST_STATUS does. Refused: `NoSlip` if
     /// that gate has no slip out at this board; nothing changes, and the slip comes back unspent.
     #[tactic(auto, unfolding(crate::specs::Acts::HasSoundTable))]
     pub fn close(&mut self, mut slip: Slip, word: u16) -> Result<(), (Refusal, Slip)>
-        ensures did { Performs S.Stage (act_close slip.gate word) (answer_of_close result) self.old
-            self.new }
+        ensures performs { Performs S.Stage (act_close slip.axis word) (answer_of_close result)
+            self.old self.new }
         ensures back { elim result [ Ok _ ↦ Unit {0} | Err p ↦ p.1 ≡ slip ] }
     {
-        match self.table.close(slip.gate, word) {
+        match self.table.close(slip.axis, word) {
             Ok(()) => {
                 slip.spent = true;
                 Ok(())

@@ -10,7 +10,7 @@ use wave::phases::MotorKind;
 
 /// The gate whose status is asked, and which is current from then on.
 #[derive(Clone, Copy, PartialEq, Eq, Debug)]
-pub enum Whose {
+pub enum GateName {
     /// Gate 1, by SET_1.
     First,
     /// Gate 2, by SET_2.
@@ -25,7 +25,7 @@ pub enum Whose {
 #[derive(Clone, Copy, PartialEq, Eq, Debug)]
 pub enum Command {
     /// Gives a status word.
-    Status(Whose),
+    Status(GateName),
     /// Gives two words.
     Ask(Query),
     /// Has no words.
@@ -43,9 +43,9 @@ fn look_up(code: u8) -> Option<Command>
     ensures { result ≡ code_table code }
 {
     Some(match code {
-        0x01 => Command::Status(Whose::First),
-        0x02 => Command::Status(Whose::Second),
-        0x08 => Command::Status(Whose::Calling),
+        0x01 => Command::Status(GateName::First),
+        0x02 => Command::Status(GateName::Second),
+        0x08 => Command::Status(GateName::Calling),
         0x09 => Command::Now(Order::Mode(ProfileMode::Trapezoidal)),
         0x0a => Command::Now(Order::Mode(ProfileMode::Velocity)),
         0x10 => Command::Long(LongOrder::Destination),
@@ -61,13 +61,13 @@ fn look_up(code: u8) -> Option<Command>
         0x1d => Command::Ask(Query::TargetPosition),
         0x1e => Command::Ask(Query::TargetVelocity),
         0x2f => Command::Word(WordOrder::Mask),
-        0x31 => Command::Status(Whose::Current),
-        0x34 => Command::Word(WordOrder::Status),
+        0x31 => Command::Status(GateName::Current),
+        0x34 => Command::Word(WordOrder::ClearEvents),
         0x35 => Command::Now(Order::Break(BreakMode::Complete)),
         0x37 => Command::Ask(Query::ActualPosition),
-        0x3e => Command::Ask(Query::CycleTime),
+        0x3e => Command::Ask(Query::ClockTime),
         0x46 => Command::Now(Order::Stop),
-        0x4a => Command::Ask(Query::Position),
+        0x4a => Command::Ask(Query::Destination),
         0x4b => Command::Ask(Query::Velocity),
         0x4c => Command::Ask(Query::Acceleration),
         0x4d => Command::Long(LongOrder::Actual),
@@ -95,14 +95,14 @@ impl TryFrom<u8> for Command {
     }
 }
 
-fn status_code(whose: Whose) -> u8
-    ensures { code_table result ≡ Some (Command.Status whose) }
+fn status_code(named: GateName) -> u8
+    ensures { code_table result ≡ Some (Command.Status named) }
 {
-    match whose {
-        Whose::First => 0x01,
-        Whose::Second => 0x02,
-        Whose::Calling => 0x08,
-        Whose::Current => 0x31,
+    match named {
+        GateName::First => 0x01,
+        GateName::Second => 0x02,
+        GateName::Calling => 0x08,
+        GateName::Current => 0x31,
     }
 }
 
@@ -143,7 +143,7 @@ fn word_code(order: WordOrder) -> u8
     match order {
         WordOrder::BufferedPower => 0x77,
         WordOrder::Power => 0x62,
-        WordOrder::Status => 0x34,
+        WordOrder::ClearEvents => 0x34,
         WordOrder::Mask => 0x2f,
     }
 }
@@ -164,13 +164,13 @@ fn query_code(query: Query) -> u8
     ensures { code_table result ≡ Some (Command.Ask query) }
 {
     match query {
-        Query::Position => 0x4a,
+        Query::Destination => 0x4a,
         Query::Velocity => 0x4b,
         Query::Acceleration => 0x4c,
         Query::TargetPosition => 0x1d,
         Query::TargetVelocity => 0x1e,
         Query::ActualPosition => 0x37,
-        Query::CycleTime => 0x3e,
+        Query::ClockTime => 0x3e,
     }
 }
 
@@ -179,7 +179,7 @@ impl From<Command> for u8 {
 
     fn from(command: Command) -> u8 {
         match command {
-            Command::Status(whose) => status_code(whose),
+            Command::Status(named) => status_code(named),
             Command::Ask(query) => query_code(query),
             Command::Now(order) => order_code(order),
             Command::Word(order) => word_code(order),

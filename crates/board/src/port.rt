@@ -1,7 +1,7 @@
 ghost use Rattle.std.specs.Prelude.{◌≡◌};
 ghost use Rattle.board.specs.Ports.{port_behind, port_after_incoming, port_step};
 
-use crate::command::{Command, Whose};
+use crate::command::{Command, GateName};
 use crate::refusal::Refusal;
 use gate::orders::{LongOrder, Order, WordOrder};
 use gate::queries::Query;
@@ -30,7 +30,7 @@ pub enum Incoming {
 pub enum Step {
     // the packet waits for a word
     Wait,
-    View(Whose),
+    View(GateName),
     Ask(Query),
     Run(Order),
     Word(WordOrder, u16),

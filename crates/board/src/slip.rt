@@ -2,17 +2,17 @@ ghost use Rattle.std.specs.Prelude.{◌≡◌, ◌+◌, ◌<◌, true};
 
 /// A service slip: a gate's call that is being served. It can be let go only once it is spent by a close.
 pub struct Slip {
-    pub(crate) gate: u8,
+    pub(crate) axis: u8,
     pub(crate) spent: bool,
-    ghost known: { gate < 2 },
+    ghost known: { axis < 2 },
 }
 
 impl Slip {
     /// The number of the slip's gate, 1 or 2.
     pub fn gate(&self) -> u8
-        ensures { result ≡ self.now.gate + 1 }
+        ensures { result ≡ self.now.axis + 1 }
     {
-        self.gate + 1
+        self.axis + 1
     }
 }
 
@@ -20,6 +20,6 @@ impl Drop for Slip {
     fn drop(self)
         requires { self.spent ≡ true }
     {
-        let Slip { gate: _, spent: _ } = self;
+        let Slip { axis: _, spent: _ } = self;
     }
 }

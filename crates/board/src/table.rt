@@ -2,10 +2,10 @@ ghost use Rattle.std.specs.Prelude.{◌≡◌, ◌<◌, Bool, cond, Some, None, 
 ghost use Rattle.std.specs.Fn.{FnReturnsAt};
 ghost use Rattle.gate.specs.Queries.{query_answer, status_word};
 ghost use Rattle.board.specs.Own.{join, entry_order, entry_word_order, entry_long_order, entry_query, entry_status};
-ghost use Rattle.board.specs.Acts.{state_of, gate_of, caller, lendable, whose, enter, next_state, transition_answer, answer_of_unit, IsSoundTable, state_after_act, answer, entry_transition, multi_update, answer_of_word, answer_of_gate, act_command, act_write, act_read, act_cycle, act_reset, act_take, act_close};
+ghost use Rattle.board.specs.Acts.{state_of, gate_of, caller, waiting_gate, named_gate, enter, next_state, transition_answer, answer_of_unit, IsSoundTable, state_after_act, answer, entry_transition, multi_update, answer_of_word, answer_of_axis, act_command, act_write, act_read, act_cycle, act_reset, act_take, act_close};
 ghost use Rattle.gate.specs.Cycles.{gate_phases};
 
-use crate::command::Whose;
+use crate::command::GateName;
 use crate::port::{Incoming, Port, Step};
 use crate::refusal::Refusal;
 use gate::gate::Gate;
@@ -13,7 +13,7 @@ use gate::inputs::Inputs;
 use gate::orders::{LongOrder, Order, WordOrder};
 use gate::queries::Query;
 
-/// What a board holds beside its stage. The gates are numbered from 0 here, as in an index and in a status word. The table is plain, so
+/// What a board holds beside its stage. A gate is named by its axis here, 0 or 1, as in a status word. The table is plain, so
 /// that one record can be lent and changed: a board's type carries the ranges, and here `IsSoundTable` stands in each contract.
 #[derive(Clone, Copy)]
 pub struct Table {
@@ -54,32 +54,32 @@ impl Table {
         self.first(|gate| gate.calls())
     }
 
-    pub(crate) fn lendable(&self) -> Option<u8>
-        ensures is { result ≡ lendable (state_of self.now) }
+    pub(crate) fn waiting_gate(&self) -> Option<u8>
+        ensures is { result ≡ waiting_gate (state_of self.now) }
         ensures bound { IfSome result (λ k. k < 2) }
     {
         self.first(|gate| gate.calls() && !gate.slip)
     }
 
-    pub(crate) fn whose(&self, named: Whose) -> Option<u8>
+    pub(crate) fn named_gate(&self, named: GateName) -> Option<u8>
         requires { self.now.current < 2 }
-        ensures is { result ≡ whose (state_of self.now) named }
+        ensures is { result ≡ named_gate (state_of self.now) named }
         ensures bound { IfSome result (λ k. k < 2) }
     {
         match named {
-            Whose::First => Some(0),
-            Whose::Second => Some(1),
-            Whose::Calling => self.caller(),
-            Whose::Current => Some(self.current),
+            GateName::First => Some(0),
+            GateName::Second => Some(1),
+            GateName::Calling => self.caller(),
+            GateName::Current => Some(self.current),
         }
     }
 
-    pub(crate) fn status(&self, gate: u8) -> u16
-        requires fit { IsSoundTable self.now }
-        requires gate { gate < 2 }
-        ensures { result ≡ status_word gate (gate_of (state_of self.now) gate) }
+    pub(crate) fn status(&self, axis: u8) -> u16
+        requires sound { IsSoundTable self.now }
+        requires axis { axis < 2 }
+        ensures { result ≡ status_word axis (gate_of (state_of self.now) axis) }
     {
-        self.gates[gate as usize].status(gate)
+        self.gates[axis as usize].status(axis)
     }
 
     pub(crate) fn ask(&self, query: Query) -> u32
@@ -93,7 +93,7 @@ impl Table {
         requires { IsSoundTable self.old }
         ensures state { state_of self.new ≡
             next_state (state_of self.old) (enter self.old.current (entry_order order)) }
-        ensures fit { IsSoundTable self.new }
+        ensures sound { IsSoundTable self.new }
     {
         self.gates[self.current as usize].run(order);
     }
@@ -101,10 +101,11 @@ impl Table {
     pub(crate) fn run_word(&mut self, order: WordOrder, word: u16) -> Result<(), Refusal>
         requires { IsSoundTable self.old }
         ensures answer { answer_of_unit result ≡
-            transition_answer (state_of self.old) (enter self.old.current (entry_word_order order word)) }
+            transition_answer (state_of self.old)
+            (enter self.old.current (entry_word_order order word)) }
         ensures state { state_of self.new ≡
             next_state (state_of self.old) (enter self.old.current (entry_word_order order word)) }
-        ensures fit { IsSoundTable self.new }
+        ensures sound { IsSoundTable self.new }
     {
         self.gates[self.current as usize]
             .run_word(order, word)
@@ -114,10 +115,12 @@ impl Table {
     pub(crate) fn run_long(&mut self, order: LongOrder, high: u16, low: u16) -> Result<(), Refusal>
         requires { IsSoundTable self.old }
         ensures answer { answer_of_unit result ≡
-            transition_answer (state_of self.old) (enter self.old.current (entry_long_order order high low)) }
+            transition_answer (state_of self.old)
+            (enter self.old.current (entry_long_order order high low)) }
         ensures state { state_of self.new ≡
-            next_state (state_of self.old) (enter self.old.current (entry_long_order order high low)) }
-        ensures fit { IsSoundTable self.new }
+            next_state (state_of self.old)
+            (enter self.old.current (entry_long_order order high low)) }
+        ensures sound { IsSoundTable self.new }
     {
         let value = join(high, low);
         self.gates[self.current as usize]
@@ -126,17 +129,19 @@ impl Table {
     }
 
     // Makes the named gate current, and gives its status.
-    fn view(&mut self, named: Whose) -> Result<(), Refusal>
+    fn view(&mut self, named: GateName) -> Result<(), Refusal>
         requires { IsSoundTable self.old }
         ensures answer { answer_of_unit result ≡
-            transition_answer (state_of self.old) (entry_transition (whose (state_of self.old) named) (entry_status named)) }
+            transition_answer (state_of self.old)
+            (entry_transition (named_gate (state_of self.old) named) (entry_status named)) }
         ensures state { state_of self.new ≡
-            next_state (state_of self.old) (entry_transition (whose (state_of self.old) named) (entry_status named)) }
-        ensures fit { IsSoundTable self.new }
+            next_state (state_of self.old)
+            (entry_transition (named_gate (state_of self.old) named) (entry_status named)) }
+        ensures sound { IsSoundTable self.new }
     {
-        let gate = self.whose(named).ok_or(Refusal::NoCall)?;
-        let word = self.status(gate);
-        self.current = gate;
+        let axis = self.named_gate(named).ok_or(Refusal::NoCall)?;
+        let word = self.status(axis);
+        self.current = axis;
         self.port = Port::Giving { word, then: None };
         Ok(())
     }
@@ -146,7 +151,7 @@ impl Table {
         requires { IsSoundTable self.old }
         ensures state { state_of self.new ≡
             next_state (state_of self.old) (enter self.old.current (entry_query query)) }
-        ensures fit { IsSoundTable self.new }
+        ensures sound { IsSoundTable self.new }
     {
         let value = self.ask(query);
         let word = (value / 65_536) as u16;
@@ -160,7 +165,7 @@ impl Table {
         requires { IsSoundTable self.old }
         ensures answer { answer_of_unit result ≡ answer (state_of self.old) (act_command code) }
         ensures state { state_of self.new ≡ state_after_act (state_of self.old) (act_command code) }
-        ensures fit { IsSoundTable self.new }
+        ensures sound { IsSoundTable self.new }
     {
         match self.port.step(Incoming::Command(code))? {
             Step::Wait => {}
@@ -174,10 +179,10 @@ impl Table {
 
     // Counts an UPDATE for each gate whose bit is set.
     fn multi_update(&mut self, word: u16)
-        requires fit { IsSoundTable self.old }
+        requires sound { IsSoundTable self.old }
         requires word { word < 4 }
         ensures state { state_of self.new ≡ next_state (state_of self.old) (multi_update word) }
-        ensures fit { IsSoundTable self.new }
+        ensures sound { IsSoundTable self.new }
     {
         if word % 2 == 1 {
             self.gates[0].run(Order::Update);
@@ -191,7 +196,7 @@ impl Table {
         requires { IsSoundTable self.old }
         ensures answer { answer_of_unit result ≡ answer (state_of self.old) (act_write word) }
         ensures state { state_of self.new ≡ state_after_act (state_of self.old) (act_write word) }
-        ensures fit { IsSoundTable self.new }
+        ensures sound { IsSoundTable self.new }
     {
         match self.port.step(Incoming::Write(word))? {
             Step::Word(order, word) => self.run_word(order, word),
@@ -212,7 +217,7 @@ impl Table {
         requires { IsSoundTable self.old }
         ensures answer { answer_of_word result ≡ answer (state_of self.old) act_read }
         ensures state { state_of self.new ≡ state_after_act (state_of self.old) act_read }
-        ensures fit { IsSoundTable self.new }
+        ensures sound { IsSoundTable self.new }
     {
         match self.port.step(Incoming::Read)? {
             Step::Give(word) => Ok(word),
@@ -228,7 +233,7 @@ impl Table {
             (gate_phases (state_of self.new).one, gate_phases (state_of self.new).two) }
         ensures state { state_of self.new ≡
             state_after_act (state_of self.old) (act_cycle one two) }
-        ensures fit { IsSoundTable self.new }
+        ensures sound { IsSoundTable self.new }
     {
         let phases_one = self.gates[0].cycle(one);
         let phases_two = self.gates[1].cycle(two);
@@ -238,7 +243,7 @@ impl Table {
     pub fn reset(&mut self)
         requires { IsSoundTable self.old }
         ensures state { state_of self.new ≡ state_after_act (state_of self.old) act_reset }
-        ensures fit { IsSoundTable self.new }
+        ensures sound { IsSoundTable self.new }
     {
         self.gates = [
             Gate::fresh(self.gates[0].slip),
@@ -248,28 +253,28 @@ impl Table {
         self.port = Port::Idle;
     }
 
-    /// Marks a slip as out, and answers its gate.
+    /// Marks a slip as out, and answers its axis.
     pub fn take(&mut self) -> Result<u8, Refusal>
         requires { IsSoundTable self.old }
-        ensures answer { answer_of_gate result ≡ answer (state_of self.old) act_take }
+        ensures answer { answer_of_axis result ≡ answer (state_of self.old) act_take }
         ensures bound { IfOk result (λ k. k < 2) }
         ensures state { state_of self.new ≡ state_after_act (state_of self.old) act_take }
-        ensures fit { IsSoundTable self.new }
+        ensures sound { IsSoundTable self.new }
     {
-        let gate = self.lendable().ok_or(Refusal::NoCall)?;
-        self.gates[gate as usize].lend();
-        Ok(gate)
+        let axis = self.waiting_gate().ok_or(Refusal::NoCall)?;
+        self.gates[axis as usize].lend();
+        Ok(axis)
     }
 
-    pub fn close(&mut self, gate: u8, word: u16) -> Result<(), Refusal>
-        requires fit { IsSoundTable self.old }
-        requires gate { gate < 2 }
-        ensures answer { answer_of_unit result ≡ answer (state_of self.old) (act_close gate word) }
+    pub fn close(&mut self, axis: u8, word: u16) -> Result<(), Refusal>
+        requires sound { IsSoundTable self.old }
+        requires axis { axis < 2 }
+        ensures answer { answer_of_unit result ≡ answer (state_of self.old) (act_close axis word) }
         ensures state { state_of self.new ≡
-            state_after_act (state_of self.old) (act_close gate word) }
-        ensures fit { IsSoundTable self.new }
+            state_after_act (state_of self.old) (act_close axis word) }
+        ensures sound { IsSoundTable self.new }
     {
-        let i = gate as usize;
+        let i = axis as usize;
         if !self.gates[i].slip {
             return Err(Refusal::NoSlip);
         }

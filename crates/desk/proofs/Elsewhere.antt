@@ -53,17 +53,17 @@ module _ {R : Type 0} (n : Ghosts R) (k w : ℕ) (l : k < 2) (x : Bool) (b c : B
     kept : (s : Slip) → mine ≡ Some s → is_kept_while_out k (Some s) x ≡ true
     kept s e = ap (λ o. is_kept_while_out k o x) (sym e) ∙ h
 
-    known : (s : Slip) → mine ≡ Some s → s.gate ≡ k
+    known : (s : Slip) → mine ≡ Some s → s.axis ≡ k
     known s e = eqb-true _ _ (fst _ _ (kept s e))
 
-    here : (s : Slip) (y : Answer) → mine ≡ Some s → Performs n (act_close s.gate w) y b c → Performs n (act_close k w) y b c
+    here : (s : Slip) (y : Answer) → mine ≡ Some s → Performs n (act_close s.axis w) y b c → Performs n (act_close k w) y b c
     here s y e d = subst (λ j. Performs n (act_close j w) y b c) (known s e) d
 
-    accepted : (s : Slip) → mine ≡ Some s → Performs n (act_close s.gate w) answer_done b c
+    accepted : (s : Slip) → mine ≡ Some s → Performs n (act_close s.axis w) answer_done b c
         → state_of c.table ≡ next_state (state_of b.table) (enter k (entry_close w))
     accepted s e d = let at = here s answer_done e d in by (state_of b.table) _ k w true (out (state_of b.table) k w at.answers) at.state
 
-    stayed : (s : Slip) (f : Refusal) → mine ≡ Some s → Performs n (act_close s.gate w) (answer_refused f) b c
+    stayed : (s : Slip) (f : Refusal) → mine ≡ Some s → Performs n (act_close s.axis w) (answer_refused f) b c
         → state_of c.table ≡ state_of b.table
     stayed s f e d =
         let at = here s (answer_refused f) e d in by (state_of b.table) _ k w false (not_out (state_of b.table) k w f at.answers) at.state

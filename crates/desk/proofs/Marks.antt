@@ -7,9 +7,9 @@ use Rattle.gate.specs.declared.orders.WordOrder.{WordOrder}
 use Rattle.gate.specs.declared.orders.WordOrder.TheVariants as word
 use Rattle.gate.specs.declared.orders.LongOrder.{LongOrder}
 use Rattle.gate.specs.declared.orders.LongOrder.TheVariants as long
-use Rattle.gate.specs.Cycles.{tick, encode, trip}
+use Rattle.gate.specs.Cycles.{tick, add_count, trip}
 use Rattle.gate.specs.Gates.{with_command_error}
-use Rattle.gate.specs.Orders.{run, with_word, word_fits, with_long, long_fits}
+use Rattle.gate.specs.Orders.{run, with_word, is_word_in_range, with_long, is_long_in_range}
 use Rattle.gate.proofs.Steps.{meet_keeps}
 use Rattle.board.specs.declared.slip.Slip.{Slip}
 use Rattle.board.specs.Own.{gate_after_list, join}
@@ -18,7 +18,7 @@ use Rattle.board.specs.declared.port.Incoming.TheVariants as incoming
 use Rattle.board.specs.Acts.{State, Act, act_command, act_write, act_read, act_cycle, act_reset, act_take, act_close, entries, transition, state_after_act, gate_of}
 use Rattle.board.proofs.Transitions.{Ordinary, by_step}
 use Rattle.board.proofs.Lists.{after_gate}
-use Rattle.desk.specs.Keeps.{state_keeps}
+use Rattle.desk.specs.Keeps.{state_has_kept_slips}
 
 order_slip : (o : Order) (g : Gate) → (run o g).slip ≡ g.slip
 order_slip (Mode m) g = refl
@@ -31,7 +31,7 @@ order_slip (Motor kind) g = refl
 word_slip : (o : WordOrder) (t : Bool) (w : ℕ) (g : Gate) → (cond t (with_word o w g) (with_command_error g)).slip ≡ g.slip
 word_slip word.BufferedPower true w g = refl
 word_slip word.Power true w g = refl
-word_slip word.Status true w g = refl
+word_slip word.ClearEvents true w g = refl
 word_slip word.Mask true w g = refl
 word_slip o false w g = refl
 
@@ -49,8 +49,8 @@ leaves g =
     record {
       none = refl;
       orders = λ o. order_slip o g;
-      words = λ o w. word_slip o (word_fits o w) w g;
-      longs = λ o high low. long_slip o (long_fits o (join high low)) (join high low) g;
+      words = λ o w. word_slip o (is_word_in_range o w) w g;
+      longs = λ o high low. long_slip o (is_long_in_range o (join high low)) (join high low) g;
       asks = λ _. refl;
       views = λ _. refl;
     }
@@ -71,7 +71,7 @@ act_slip k s (act_write w) g h = by_step (leaves g) k s (port_step s.port (incom
 act_slip k s act_read g h = by_step (leaves g) k s (port_step s.port incoming.Read)
 act_slip k s (act_cycle i j) g h =
     let inputs = cond (eqb k 0) i j in
-    meet_keeps (λ x. x.slip) inputs.home (trip inputs (encode inputs.count (tick g))) refl refl
+    meet_keeps (λ x. x.slip) inputs.home (trip inputs (add_count inputs.count (tick g))) refl refl
 act_slip k s act_reset g h = refl
 act_slip k s act_take g h = cc
 act_slip k s (act_close j w) g h = cc
@@ -82,7 +82,7 @@ act_mark k s a l h = ap (λ x. x.slip) (after_gate s a k l) ∙ act_slip k s a (
 
 -- the slips that are kept stay the right ones
 pub still_keeps : (s z : State) (a : Act) (first second : Option Slip) → plain a ≡ true → z ≡ state_after_act s a
-    → state_keeps s first second ≡ true → state_keeps z first second ≡ true
+    → state_has_kept_slips s first second ≡ true → state_has_kept_slips z first second ≡ true
 still_keeps s z a first second p e h =
     let one : z.one.slip ≡ s.one.slip = ap (λ x. x.one.slip) e ∙ act_mark 0 s a (lit< tt) p in
     let two : z.two.slip ≡ s.two.slip = ap (λ x. x.two.slip) e ∙ act_mark 1 s a (lit< tt) p in

@@ -7,7 +7,7 @@ use Rattle.board.specs.declared.refusal.Refusal.{Refusal}
 use Rattle.board.specs.declared.slip.Slip.{Slip}
 use Rattle.board.specs.Own.{Answer, answer_slip, answer_refused, answer_done}
 use Rattle.board.specs.Acts.{Act, act_close, gate_of, answer_of_unit}
-use Rattle.board.specs.Runs.{slip_gate, Performs, BoardUnchanged, board_state}
+use Rattle.board.specs.Runs.{slip_axis, Performs, BoardUnchanged, board_state}
 use Rattle.board.specs.Sequences.{PerformsAll}
 
 -- a take's answer, from the number of the slip's gate
@@ -34,9 +34,9 @@ abbrev pub ClosesAt : {R : Type 0} (n : Ghosts R) → ℕ → Option (Result (Un
     → Option Slip → Option Slip → Option Slip → Type 0
 ClosesAt n w None b c mine after theirs left = (mine ≡ None) × (after ≡ None) × (left ≡ theirs) × (c ≡ b)
 ClosesAt n w (Some (Ok _)) b c mine after theirs left =
-    (s : Slip) × (mine ≡ Some s) × Performs n (act_close (slip_gate s) w) answer_done b c × (after ≡ theirs) × (left ≡ None)
+    (s : Slip) × (mine ≡ Some s) × Performs n (act_close (slip_axis s) w) answer_done b c × (after ≡ theirs) × (left ≡ None)
 ClosesAt n w (Some (Err e)) b c mine after theirs left =
-    (s : Slip) × (mine ≡ Some s) × Performs n (act_close (slip_gate s) w) (answer_refused e) b c × (after ≡ mine) × (left ≡ theirs)
+    (s : Slip) × (mine ≡ Some s) × Performs n (act_close (slip_axis s) w) (answer_refused e) b c × (after ≡ mine) × (left ≡ theirs)
 
 -- the slip that a desk keeps for a gate is closed at another board, and its own board stays as it is; where the number names no gate,
 -- or no slip is kept for it, neither board changes

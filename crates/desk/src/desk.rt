@@ -1,8 +1,8 @@
 ghost use Rattle.std.specs.Prelude.{◌≡◌, true, Some, None};
 ghost use Rattle.board.specs.Own.{answer_done};
 ghost use Rattle.board.specs.Acts.{act_close, gate_of};
-ghost use Rattle.board.specs.Runs.{Performs, board_state, slip_gate};
-ghost use Rattle.desk.specs.Keeps.{keeps};
+ghost use Rattle.board.specs.Runs.{Performs, board_state, slip_axis};
+ghost use Rattle.desk.specs.Keeps.{has_kept_slips};
 
 use board::board::Board;
 use board::refusal::Refusal;
@@ -18,7 +18,7 @@ pub struct Desk<S: Stage + Drop> {
     board: Board<S>,
     first: Option<Slip>,
     second: Option<Slip>,
-    ghost kept: { keeps board first second ≡ true },
+    ghost kept: { has_kept_slips board first second ≡ true },
 }
 
 /// A word for a close that clears no event bit.
@@ -34,8 +34,8 @@ pub(crate) fn put(place: &mut Option<Slip>, slip: Slip)
 
 // Closes a slip at a board where its gate's slip is out.
 fn close_out<S: Stage + Drop>(board: &mut Board<S>, slip: Slip, word: u16)
-    requires { (gate_of (board_state board.old) (slip_gate slip)).slip ≡ true }
-    ensures { Performs S.Stage (act_close (slip_gate slip) word) answer_done board.old board.new }
+    requires { (gate_of (board_state board.old) (slip_axis slip)).slip ≡ true }
+    ensures { Performs S.Stage (act_close (slip_axis slip) word) answer_done board.old board.new }
 {
     board.close(slip, word).unwrap();
 }
@@ -43,14 +43,14 @@ fn close_out<S: Stage + Drop>(board: &mut Board<S>, slip: Slip, word: u16)
 impl<S: Stage + Drop> Desk<S> {
     ghost use Rattle.std.specs.Prelude.{[], false, IfOk};
     ghost use Rattle.board.specs.Acts.{answer_of_unit, answer_of_word, act_command, act_write, act_read, act_cycle, act_reset, act_take};
-    ghost use Rattle.board.specs.Runs.{ReachedBy};
+    ghost use Rattle.board.specs.Runs.{IsReachedBy};
     ghost use Rattle.desk.specs.Runs.{RunsCycles};
     ghost use Rattle.stage.specs.Pairs.{is_gate};
     ghost use Rattle.desk.specs.Closes.{answer_of_number, ClosesSlip, ClosesAll};
 
     /// A new board, and no slip.
     pub fn new(stage: S) -> Desk<S>
-        ensures { ReachedBy S.Stage [] result.board }
+        ensures { IsReachedBy S.Stage [] result.board }
     {
         Desk {
             board: Board::new(stage),
@@ -109,7 +109,7 @@ impl<S: Stage + Drop> Desk<S> {
 
     /// Takes a slip and keeps it; answers its gate, 1 or 2.
     pub fn take(&mut self) -> Result<u8, Refusal>
-        ensures did { Performs S.Stage act_take (answer_of_number result) self.old.board
+        ensures performs { Performs S.Stage act_take (answer_of_number result) self.old.board
             self.new.board }
         ensures gate { IfOk result (λ n. is_gate n ≡ true) }
     {

@@ -14,7 +14,7 @@ use Rattle.motion.specs.Course.{microsteps}
 use Rattle.gate.specs.Cycles.{gate_phases}
 use Rattle.gate.specs.declared.events.Event.{Event}
 use Rattle.gate.specs.declared.events.Event.TheVariants.{MotionComplete, WrapAround}
-use Rattle.gate.specs.Events.{all}
+use Rattle.gate.specs.Events.{event_bits}
 use Rattle.gate.specs.Inputs.{still_inputs}
 use Rattle.board.specs.Own.{Answer, answer_done, answer_refused, answer_word, answer_words, answer_slip}
 use Rattle.board.specs.Refusals.{refusal_number}
@@ -96,7 +96,7 @@ abbrev pub View : Type 0
 View = ℤ × ℤ × List Event
 
 abbrev pub view_of : State → View
-view_of s = (s.one.motion.velocity, microsteps s.one.motion.target, events_set (all s.one.events))
+view_of s = (s.one.motion.velocity, microsteps s.one.motion.target, events_set (event_bits s.one.events))
 
 -- what is seen in cycle after cycle
 abbrev pub course : ℕ → State → List View
@@ -123,16 +123,16 @@ pub data Figure : Type 0 where
   figure_pulse : ℤ → ℤ → Figure
   figure_answers : List Act → List ActOutcome → Figure
 
-abbrev pub FigureHolds : Figure → Type 0
-FigureHolds (figure_move acts xs) = journey acts (length xs) ≡ (map (λ a. outcome_accepted) acts, xs)
-FigureHolds (figure_phase position power p) =
+abbrev pub Holds : Figure → Type 0
+Holds (figure_move acts xs) = journey acts (length xs) ≡ (map (λ a. outcome_accepted) acts, xs)
+Holds (figure_phase position power p) =
     gate_phases (state_after_cycle (state_after_acts (state_after []) (set_phase_2 ++ set_mtr_cmd power ++ set_actl_pos position))).one ≡ p
-FigureHolds (figure_pulse x r) = (p : Pairs) → pairs_after_show pwm.STEP p 1 x x ≡ record { one = (r, r); two = p.two }
-FigureHolds (figure_answers acts xs) = outcomes (state_after []) acts ≡ xs
+Holds (figure_pulse x r) = (p : Pairs) → pairs_after_show pwm.STEP p 1 x x ≡ record { one = (r, r); two = p.two }
+Holds (figure_answers acts xs) = outcomes (state_after []) acts ≡ xs
 
-abbrev pub FiguresHold : List Figure → Type 0
-FiguresHold [] = Unit {0}
-FiguresHold (f ∷ fs) = FigureHolds f × FiguresHold fs
+abbrev pub AllHold : List Figure → Type 0
+AllHold [] = Unit {0}
+AllHold (f ∷ fs) = Holds f × AllHold fs
 
 abbrev pub minus : ℕ → ℤ
 minus n = neg_ℤ (pos n)

@@ -2,11 +2,11 @@
 #![tactic(auto)]
 
 ghost use Rattle.std.specs.Prelude.{◌≡◌, length};
-ghost use Rattle.figures.specs.Figures.{FiguresHold, figures};
+ghost use Rattle.figures.specs.Figures.{AllHold, figures};
 
 /// How many rows of worked figures hold: all of them.
 pub fn rows() -> u8
-    ensures hold { FiguresHold figures }
+    ensures hold { AllHold figures }
     ensures count { result ≡ length figures }
 {
     14

@@ -6,7 +6,7 @@ use gate::inputs::Inputs;
 use gate::queries::Query;
 use stage::Stage;
 use stage::dac::Dac;
-use stage::wiring::{Wire, Wiring};
+use stage::wiring::{GateWiring, Wiring};
 use std::process::Abort;
 use std::test::Fail;
 
@@ -42,7 +42,7 @@ fn foreign_makes(rt: HostRuntime) -> Result<(), Fail> {
 #[test]
 fn compared_with_a_dac(rt: HostRuntime) -> Result<(), Fail> {
     let dac = placed(Dac::new())?;
-    let crossed = Wire {
+    let crossed = GateWiring {
         exchanged: true,
         negated: true,
     };
@@ -82,17 +82,17 @@ fn record_is_asked(rt: HostRuntime) -> Result<(), Fail> {
     board.command(0x62)?;
     assert_eq!(rt; board.write(0x8000), Err(Refusal::OutOfRange));
     if let Some(gate) = board.record(1) {
-        assert_eq!(rt; gate.answer(Query::Position), 1);
+        assert_eq!(rt; gate.answer(Query::Destination), 1);
         assert_eq!(rt; gate.answer(Query::Velocity), 40_000);
         assert_eq!(rt; gate.answer(Query::Acceleration), 16_384);
         assert_eq!(rt; gate.answer(Query::TargetPosition), 0);
         assert_eq!(rt; gate.answer(Query::TargetVelocity), 32_768);
         assert_eq!(rt; gate.answer(Query::ActualPosition), 10);
-        assert_eq!(rt; gate.answer(Query::CycleTime), 2);
+        assert_eq!(rt; gate.answer(Query::ClockTime), 2);
         assert_eq!(rt; gate.status(0), 0x0480);
         assert_eq!(rt; gate.phases(), (0, 100));
         assert!(rt; gate.calls());
-        assert!(rt; !gate.at_rest());
+        assert!(rt; !gate.is_at_rest());
         Ok(())
     } else {
         Err("gate 1 is a gate".into())

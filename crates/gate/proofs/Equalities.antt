@@ -44,7 +44,7 @@ breakpoint_decides x y = search rules
 pub events_decides : (x y : Events) → Decides ((events_eq.ghosts).eq x y) (x ≡ y)
 events_decides x y =
     Decides-like _ (λ h. search rules) (λ e. search rules)
-    (Decides-and _ _ (bool_decides x.complete y.complete) (Decides-and _ _ (bool_decides x.wrapped y.wrapped) (Decides-and _ _ (bool_decides x.reached y.reached) (Decides-and _ _ (bool_decides x.positive y.positive) (Decides-and _ _ (bool_decides x.negative y.negative) (bool_decides x.error y.error))))))
+    (Decides-and _ _ (bool_decides x.complete y.complete) (Decides-and _ _ (bool_decides x.wrapped y.wrapped) (Decides-and _ _ (bool_decides x.breakpoint_reached y.breakpoint_reached) (Decides-and _ _ (bool_decides x.positive y.positive) (Decides-and _ _ (bool_decides x.negative y.negative) (bool_decides x.error y.error))))))
 
 pub detectors_decides : (x y : Detectors) → Decides ((detectors_eq.ghosts).eq x y) (x ≡ y)
 detectors_decides x y = search rules

@@ -2,27 +2,27 @@
 use Rattle.std.proofs.Common.{◌≡◌, ℕ, ◌≤◌, max, Bool, true, false, cond, not, ◌&&◌, ◌||◌, eqb, ℤ, pos, ◌-ℤ◌, nat_abs, sym, refl, ap, ◌∙◌, arith}
 use Rattle.std.proofs.lemmas.Bool.Decides.{nat_tests}
 use Rattle.motion.proofs.Velocities.{trapezoid_size, trapezoid_step, cruise_size, cruise_step}
-use Rattle.motion.specs.Course.{advanced, counted, crosses, distance_to, microsteps}
+use Rattle.motion.specs.Course.{next_target, next_actual, is_crossing_end, distance_to, microsteps}
 use Rattle.gate.specs.declared.gate.Gate.{Gate}
 use Rattle.gate.specs.declared.inputs.Inputs.{Inputs}
 use Rattle.gate.specs.declared.gate.Motion.{Motion}
 use Rattle.gate.specs.declared.profile.ProfileMode.{ProfileMode}
 use Rattle.gate.specs.declared.profile.ProfileMode.TheVariants.{Trapezoidal, Velocity}
-use Rattle.gate.specs.Cycles.{tick, encode, with_limits, trips, trip, condition_holds, with_breakpoint_reached, meets, meet, profile_velocity, next_velocity, advance, arrived, at_rest, settle, cycle}
+use Rattle.gate.specs.Cycles.{tick, add_count, with_limits, is_tripping, trip, is_condition_met, with_breakpoint_reached, is_breakpoint_met, meet, profile_velocity, next_velocity, advance, has_arrived, is_at_rest, settle, cycle}
 use Rattle.gate.specs.Clock.{clock_tick, time}
 use Rattle.gate.specs.Gates.{latch, halted_motion}
 use Rattle.gate.specs.Laws.{RespectsProfile, StepsInOrder}
 
 -- the code's steps make a cycle
-pub chained : (i : Inputs) (g g1 g2 g3 g4 g5 g6 : Gate) → g1 ≡ tick g → g2 ≡ encode i.count g1 → g3 ≡ trip i g2 → g4 ≡ meet i.home g3
+pub chained : (i : Inputs) (g g1 g2 g3 g4 g5 g6 : Gate) → g1 ≡ tick g → g2 ≡ add_count i.count g1 → g3 ≡ trip i g2 → g4 ≡ meet i.home g3
     → g5 ≡ advance g4 → g6 ≡ settle g5 → g6 ≡ cycle i g
 chained i g g1 g2 g3 g4 g5 g6 e1 e2 e3 e4 e5 e6 =
-    e6 ∙ ap settle (e5 ∙ ap advance (e4 ∙ ap (meet i.home) (e3 ∙ ap (trip i) (e2 ∙ ap (encode i.count) e1))))
+    e6 ∙ ap settle (e5 ∙ ap advance (e4 ∙ ap (meet i.home) (e3 ∙ ap (trip i) (e2 ∙ ap (add_count i.count) e1))))
 
 -- what neither a mark nor a latch changes, a breakpoint leaves
 pub meet_keeps : {A : Type 0} (f : Gate → A) (home : Bool) (g : Gate) → f (with_breakpoint_reached g) ≡ f g
     → f (latch (with_breakpoint_reached g)) ≡ f g → f (meet home g) ≡ f g
-meet_keeps f home g m l = by (meets home g) g.breakpoint.auto
+meet_keeps f home g m l = by (is_breakpoint_met home g) g.breakpoint.auto
   where
     by : (b c : Bool) → f (cond b (cond c (latch (with_breakpoint_reached g)) (with_breakpoint_reached g)) g) ≡ f g
     by true true = l
@@ -61,7 +61,7 @@ slowed false m = omega arith
 -- a gate that runs on after the breakpoint was tripped by no limit
 unhalted : (p n home : Bool) (i : Inputs) (g : Gate) → (meet home (with_limits p n i g)).motion.halted ≡ false
     → (with_limits p n i g).motion.velocity ≡ g.motion.velocity
-unhalted p n home i g h = by (meets home (with_limits p n i g)) g.breakpoint.auto p n h
+unhalted p n home i g h = by (is_breakpoint_met home (with_limits p n i g)) g.breakpoint.auto p n h
   where
     by : (b c p n : Bool)
         → (cond b (cond c (latch (with_breakpoint_reached (with_limits p n i g))) (with_breakpoint_reached (with_limits p n i g))) (with_limits p n i g)).motion.halted ≡ false → (with_limits p n i g).motion.velocity ≡ g.motion.velocity
@@ -70,11 +70,11 @@ unhalted p n home i g h = by (meets home (with_limits p n i g)) g.breakpoint.aut
     by b c false true h = grind (arith, nat_tests)
 
 -- a breakpoint that is met sets its bit
-meet_reached : (home : Bool) (g : Gate) → (meet home g).events.reached ≡ (g.events.reached || meets home g)
-meet_reached home g = by (meets home g) g.breakpoint.auto g.events.reached refl
+meet_reached : (home : Bool) (g : Gate) → (meet home g).events.breakpoint_reached ≡ (g.events.breakpoint_reached || is_breakpoint_met home g)
+meet_reached home g = by (is_breakpoint_met home g) g.breakpoint.auto g.events.breakpoint_reached refl
   where
-    by : (b c r : Bool) → g.events.reached ≡ r
-        → (cond b (cond c (latch (with_breakpoint_reached g)) (with_breakpoint_reached g)) g).events.reached ≡ (r || b)
+    by : (b c r : Bool) → g.events.breakpoint_reached ≡ r
+        → (cond b (cond c (latch (with_breakpoint_reached g)) (with_breakpoint_reached g)) g).events.breakpoint_reached ≡ (r || b)
     by true true true e = refl
     by true true false e = refl
     by true false true e = refl
@@ -82,25 +82,25 @@ meet_reached home g = by (meets home g) g.breakpoint.auto g.events.reached refl
     by false c true e = e
     by false c false e = e
 
-arrived_settle : (m : ProfileMode) (g : Gate) → arrived m (settle g) ≡ arrived m g
+arrived_settle : (m : ProfileMode) (g : Gate) → has_arrived m (settle g) ≡ has_arrived m g
 arrived_settle Velocity g = refl
 arrived_settle Trapezoidal g = refl
 
 -- to note that a gate rests does not change whether it does
-at_rest_settle : (g : Gate) → at_rest (settle g) ≡ at_rest g
+at_rest_settle : (g : Gate) → is_at_rest (settle g) ≡ is_at_rest g
 at_rest_settle g =
     ap (λ a. eqb (nat_abs g.motion.velocity) 0 && (g.motion.halted || (eqb g.active.velocity 0 || a))) (arrived_settle g.active.mode g)
 
 module _ (i : Inputs) (g : Gate) where
   early : Gate
-  early = encode i.count (tick g)
+  early = add_count i.count (tick g)
 
   -- whether a limit trips, the positive and the negative one
   plus : Bool
-  plus = trips i.positive g.detectors.positive g.events
+  plus = is_tripping i.positive g.detectors.positive g.events
 
   minus : Bool
-  minus = not plus && trips i.negative g.detectors.negative g.events
+  minus = not plus && is_tripping i.negative g.detectors.negative g.events
 
   mid : Gate
   mid = trip i early
@@ -145,13 +145,13 @@ module _ (i : Inputs) (g : Gate) where
         limits = meet_keeps (λ x. x.events.positive) i.home mid refl refl;
         breaks =
             meet_reached i.home mid
-            ∙ ap (λ t. g.events.reached || condition_holds g.breakpoint.mode g.breakpoint.point (time (clock_tick g.clock)) (microsteps t) (counted g.actual i.count) g.events.complete i.home)
+            ∙ ap (λ t. g.events.breakpoint_reached || is_condition_met g.breakpoint.mode g.breakpoint.point (time (clock_tick g.clock)) (microsteps t) (next_actual g.actual i.count) g.events.complete i.home)
             (stop_keeps (λ m. m.target) (plus || minus) g.motion refl);
-        moves = ap (λ t. advanced t v) broken_target;
-        wraps = ap (λ w. w || crosses broken.motion.target v) wrapped ∙ ap (λ t. g.events.wrapped || crosses t v) broken_target;
+        moves = ap (λ t. next_target t v) broken_target;
+        wraps = ap (λ w. w || is_crossing_end broken.motion.target v) wrapped ∙ ap (λ t. g.events.wrapped || is_crossing_end t v) broken_target;
         rests = sym (at_rest_settle (advance broken));
         completes =
-            ap (λ x. x || (at_rest (advance broken) && not broken.motion.rested)) complete
-            ∙ (ap (λ x. g.events.complete || (at_rest (advance broken) && not x)) broken_rested
+            ap (λ x. x || (is_at_rest (advance broken) && not broken.motion.rested)) complete
+            ∙ (ap (λ x. g.events.complete || (is_at_rest (advance broken) && not x)) broken_rested
             ∙ ap (λ x. g.events.complete || (x && not g.motion.rested)) (sym (at_rest_settle (advance broken))));
       }

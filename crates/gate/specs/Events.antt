@@ -13,12 +13,12 @@ place NegativeLimit = 6
 place CommandError = 7
 
 abbrev pub no_events : Events
-no_events = record { complete = false; wrapped = false; reached = false; positive = false; negative = false; error = false }
+no_events = record { complete = false; wrapped = false; breakpoint_reached = false; positive = false; negative = false; error = false }
 
 -- each event with its bit
-abbrev pub all : Events → List (Event × Bool)
-all e =
-    (MotionComplete, e.complete) ∷ (WrapAround, e.wrapped) ∷ (Breakpoint, e.reached) ∷ (PositiveLimit, e.positive)
+abbrev pub event_bits : Events → List (Event × Bool)
+event_bits e =
+    (MotionComplete, e.complete) ∷ (WrapAround, e.wrapped) ∷ (Breakpoint, e.breakpoint_reached) ∷ (PositiveLimit, e.positive)
     ∷ (NegativeLimit, e.negative) ∷ (CommandError, e.error) ∷ []
 
 -- whether a word holds 1 at a place
@@ -31,7 +31,7 @@ weight b n = cond b (2 ^ n) 0
 
 abbrev pub events_word : Events → ℕ
 events_word e =
-    weight e.complete (place MotionComplete) + weight e.wrapped (place WrapAround) + weight e.reached (place Breakpoint)
+    weight e.complete (place MotionComplete) + weight e.wrapped (place WrapAround) + weight e.breakpoint_reached (place Breakpoint)
     + weight e.positive (place PositiveLimit) + weight e.negative (place NegativeLimit) + weight e.error (place CommandError)
 
 -- the bits whose places hold 0 in the word are cleared
@@ -40,15 +40,15 @@ keep word e =
     record {
       complete = e.complete && bit word (place MotionComplete);
       wrapped = e.wrapped && bit word (place WrapAround);
-      reached = e.reached && bit word (place Breakpoint);
+      breakpoint_reached = e.breakpoint_reached && bit word (place Breakpoint);
       positive = e.positive && bit word (place PositiveLimit);
       negative = e.negative && bit word (place NegativeLimit);
       error = e.error && bit word (place CommandError);
     }
 
 -- a bit is set whose place holds 1 in the mask
-abbrev pub raised : ℕ → Events → Bool
-raised mask e =
+abbrev pub has_bit_in : ℕ → Events → Bool
+has_bit_in mask e =
     (e.complete && bit mask (place MotionComplete)) || ((e.wrapped && bit mask (place WrapAround))
-    || ((e.reached && bit mask (place Breakpoint)) || ((e.positive && bit mask (place PositiveLimit))
+    || ((e.breakpoint_reached && bit mask (place Breakpoint)) || ((e.positive && bit mask (place PositiveLimit))
     || ((e.negative && bit mask (place NegativeLimit)) || (e.error && bit mask (place CommandError))))))

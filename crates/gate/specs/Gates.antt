@@ -14,8 +14,8 @@ use Rattle.gate.specs.Events.{no_events}
 use Rattle.gate.specs.Profile.{first_profile}
 
 -- after a reset; only the slip mark is kept over one
-abbrev pub fresh : Bool → Gate
-fresh slip =
+abbrev pub fresh_gate : Bool → Gate
+fresh_gate slip =
     record {
       buffered = first_profile;
       active = first_profile;

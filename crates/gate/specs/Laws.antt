@@ -1,14 +1,14 @@
 -- Laws of a gate, above the definitions of what is done to it.
 use Rattle.std.specs.Prelude.{◌≡◌, ℕ, ◌≤◌, max, false, not, ◌&&◌, ◌||◌, ◌-ℤ◌, unsigned_abs, Some, None, Option, ◌≢◌}
-use Rattle.motion.specs.Course.{advanced, counted, crosses, microsteps}
+use Rattle.motion.specs.Course.{next_target, next_actual, is_crossing_end, microsteps}
 use Rattle.gate.specs.declared.gate.Gate.{Gate}
 use Rattle.gate.specs.declared.inputs.Inputs.{Inputs}
 use Rattle.gate.specs.declared.load.Load.{Load}
 use Rattle.gate.specs.declared.load.Load.TheVariants as load
 use Rattle.gate.specs.declared.queries.Query.{Query}
-use Rattle.gate.specs.declared.queries.Query.TheVariants.{Position, Velocity, Acceleration}
+use Rattle.gate.specs.declared.queries.Query.TheVariants.{Destination, Velocity, Acceleration}
 use Rattle.gate.specs.Clock.{clock_tick, time}
-use Rattle.gate.specs.Cycles.{at_rest, condition_holds, gate_phases, trips}
+use Rattle.gate.specs.Cycles.{is_at_rest, is_condition_met, gate_phases, is_tripping}
 use Rattle.gate.specs.Queries.{query_answer, is_calling, status_word}
 
 -- a gate never runs faster than it did or than its velocity register says, and unless it halts its velocity changes by at most the
@@ -20,18 +20,19 @@ pub record RespectsProfile (g h : Gate) : Type 0 where
 -- the order of a cycle's steps, by what each sees
 pub record StepsInOrder (i : Inputs) (g h : Gate) : Type 0 where
   -- a limit looks at the bits and detectors as they stood, and the positive one goes first
-  pub limits : h.events.positive ≡ (g.events.positive || trips i.positive g.detectors.positive g.events)
+  pub limits : h.events.positive ≡ (g.events.positive || is_tripping i.positive g.detectors.positive g.events)
   -- a breakpoint sees the time and the count of this cycle, and the target position before the move
   pub breaks :
-      h.events.reached
-      ≡ (g.events.reached || condition_holds g.breakpoint.mode g.breakpoint.point (time (clock_tick g.clock)) (microsteps g.motion.target)
-      (counted g.actual i.count) g.events.complete i.home)
+      h.events.breakpoint_reached
+      ≡ (g.events.breakpoint_reached
+      || is_condition_met g.breakpoint.mode g.breakpoint.point (time (clock_tick g.clock)) (microsteps g.motion.target)
+      (next_actual g.actual i.count) g.events.complete i.home)
   -- the target moves by the new velocity, and that move alone wraps
-  pub moves : h.motion.target ≡ advanced g.motion.target h.motion.velocity
-  pub wraps : h.events.wrapped ≡ (g.events.wrapped || crosses g.motion.target h.motion.velocity)
+  pub moves : h.motion.target ≡ next_target g.motion.target h.motion.velocity
+  pub wraps : h.events.wrapped ≡ (g.events.wrapped || is_crossing_end g.motion.target h.motion.velocity)
   -- rest is judged after the move, and motion complete is set where rest begins
-  pub rests : h.motion.rested ≡ at_rest h
-  pub completes : h.events.complete ≡ (g.events.complete || (at_rest h && not g.motion.rested))
+  pub rests : h.motion.rested ≡ is_at_rest h
+  pub completes : h.events.complete ≡ (g.events.complete || (is_at_rest h && not g.motion.rested))
 
 -- between g and h no question answers otherwise but the one that is named, if one is
 pub record SameAnswersBut (named : Option Query) (g h : Gate) : Type 0 where
@@ -41,9 +42,9 @@ pub record SameAnswersBut (named : Option Query) (g h : Gate) : Type 0 where
   pub phases : gate_phases h ≡ gate_phases g
 
 -- the one question that sees the register that is loaded, if one does
-abbrev pub load_sees : Load → Option Query
-load_sees (load.Destination x) = Some Position
-load_sees (load.Velocity x) = Some Velocity
-load_sees (load.Acceleration x) = Some Acceleration
-load_sees (load.Mode m) = None
-load_sees (load.Power x) = None
+abbrev pub load_query : Load → Option Query
+load_query (load.Destination x) = Some Destination
+load_query (load.Velocity x) = Some Velocity
+load_query (load.Acceleration x) = Some Acceleration
+load_query (load.Mode m) = None
+load_query (load.Power x) = None

@@ -10,12 +10,12 @@ abbrev pub is_in_signed_range : ℤ → Bool
 is_in_signed_range z = int_le (neg_ℤ (pos (2 ^ 30))) z && int_lt z (pos (2 ^ 30))
 
 -- the value is in its register's range: velocities run from 0 to 2^30 − 1, powers to 32,767, and no acceleration is 0
-abbrev pub load_fits : Load → Bool
-load_fits (Destination x) = is_in_signed_range x
-load_fits (Velocity x) = nat_lt x (2 ^ 30)
-load_fits (Acceleration x) = not (unsigned_abs x == 0) && is_in_signed_range x
-load_fits (Mode m) = true
-load_fits (Power x) = nat_le x 32767
+abbrev pub is_load_in_range : Load → Bool
+is_load_in_range (Destination x) = is_in_signed_range x
+is_load_in_range (Velocity x) = nat_lt x (2 ^ 30)
+is_load_in_range (Acceleration x) = not (unsigned_abs x == 0) && is_in_signed_range x
+is_load_in_range (Mode m) = true
+is_load_in_range (Power x) = nat_le x 32767
 
 -- the gate with that register loaded
 abbrev pub with_load : Load → Gate → Gate

@@ -14,7 +14,7 @@ use Rattle.gate.specs.declared.orders.LongOrder.TheVariants as long
 use Rattle.gate.specs.declared.orders.OutOfRange.{OutOfRange}
 use Rattle.gate.specs.Events.{keep}
 use Rattle.gate.specs.Gates.{with_command_error, latch, gate_halted_at, with_breakpoint, with_events, with_kind, with_mask, with_powers}
-use Rattle.gate.specs.Loads.{is_in_signed_range, load_fits, with_load}
+use Rattle.gate.specs.Loads.{is_in_signed_range, is_load_in_range, with_load}
 
 abbrev pub run : Order → Gate → Gate
 run (Mode m) g = with_load (load.Mode m) g
@@ -29,31 +29,31 @@ abbrev pub value_if_fits : {A : Type 0} → Bool → A → Result A OutOfRange
 value_if_fits fits x = cond fits (Ok x) (Err (record {}))
 
 -- a power has its register's range; any word clears, and any word masks
-abbrev pub word_fits : WordOrder → ℕ → Bool
-word_fits word.BufferedPower w = load_fits (load.Power w)
-word_fits word.Power w = load_fits (load.Power w)
-word_fits word.Status w = true
-word_fits word.Mask w = true
+abbrev pub is_word_in_range : WordOrder → ℕ → Bool
+is_word_in_range word.BufferedPower w = is_load_in_range (load.Power w)
+is_word_in_range word.Power w = is_load_in_range (load.Power w)
+is_word_in_range word.ClearEvents w = true
+is_word_in_range word.Mask w = true
 
 abbrev pub with_word : WordOrder → ℕ → Gate → Gate
 with_word word.BufferedPower w g = with_load (load.Power w) g
 with_word word.Power w g = with_powers g (record { buffered = w; active = w })
-with_word word.Status w g = with_events g (keep w g.events)
+with_word word.ClearEvents w g = with_events g (keep w g.events)
 with_word word.Mask w g = with_mask g w
 
 abbrev pub word_answer : WordOrder → ℕ → Result (Unit {0}) OutOfRange
-word_answer o w = value_if_fits (word_fits o w) tt
+word_answer o w = value_if_fits (is_word_in_range o w) tt
 
 abbrev pub run_word : WordOrder → ℕ → Gate → Gate
-run_word o w g = cond (word_fits o w) (with_word o w g) (with_command_error g)
+run_word o w g = cond (is_word_in_range o w) (with_word o w g) (with_command_error g)
 
 -- a value has its register's range, and a position that of a destination; any 32 bits are a point
-abbrev pub long_fits : LongOrder → ℕ → Bool
-long_fits long.Destination v = load_fits (load.Destination (to_z w32 v))
-long_fits long.Velocity v = load_fits (load.Velocity v)
-long_fits long.Acceleration v = load_fits (load.Acceleration (to_z w32 v))
-long_fits long.Point v = true
-long_fits long.Actual v = is_in_signed_range (to_z w32 v)
+abbrev pub is_long_in_range : LongOrder → ℕ → Bool
+is_long_in_range long.Destination v = is_load_in_range (load.Destination (to_z w32 v))
+is_long_in_range long.Velocity v = is_load_in_range (load.Velocity v)
+is_long_in_range long.Acceleration v = is_load_in_range (load.Acceleration (to_z w32 v))
+is_long_in_range long.Point v = true
+is_long_in_range long.Actual v = is_in_signed_range (to_z w32 v)
 
 abbrev pub with_long : LongOrder → ℕ → Gate → Gate
 with_long long.Destination v g = with_load (load.Destination (to_z w32 v)) g
@@ -63,10 +63,10 @@ with_long long.Point v g = with_breakpoint g (record g.breakpoint { point = v })
 with_long long.Actual v g = gate_halted_at (to_z w32 v) g
 
 abbrev pub long_answer : LongOrder → ℕ → Result (Unit {0}) OutOfRange
-long_answer o v = value_if_fits (long_fits o v) tt
+long_answer o v = value_if_fits (is_long_in_range o v) tt
 
 abbrev pub run_long : LongOrder → ℕ → Gate → Gate
-run_long o v g = cond (long_fits o v) (with_long o v g) (with_command_error g)
+run_long o v g = cond (is_long_in_range o v) (with_long o v g) (with_command_error g)
 
 -- the load that an order is, if it is one
 abbrev pub order_load : Order → Option Load
@@ -80,7 +80,7 @@ order_load (Motor kind) = None
 abbrev pub word_load : WordOrder → ℕ → Option Load
 word_load word.BufferedPower w = Some (load.Power w)
 word_load word.Power w = None
-word_load word.Status w = None
+word_load word.ClearEvents w = None
 word_load word.Mask w = None
 
 abbrev pub long_load : LongOrder → ℕ → Option Load

@@ -1,12 +1,12 @@
 ghost use Rattle.std.specs.Prelude.{◌≡◌, ◌^◌, ◌<◌, unsigned_abs};
-ghost use Rattle.gate.specs.Cycles.{tick, encode, trip, meets, meet, next_velocity, advance, arrived, at_rest, settle, cycle, gate_phases};
+ghost use Rattle.gate.specs.Cycles.{tick, add_count, trip, is_breakpoint_met, meet, next_velocity, advance, has_arrived, is_at_rest, settle, cycle, gate_phases};
 ghost use Rattle.gate.specs.Laws.{RespectsProfile, StepsInOrder};
 ghost use Rattle.gate.specs.Sound.{IsSound};
 
 use crate::gate::{BreakMode, Gate};
 use crate::inputs::Inputs;
 use crate::profile::ProfileMode;
-use motion::course::{advanced, counted, cruise, distance, microsteps};
+use motion::course::{cruise, distance, microsteps, next_actual, next_target};
 use motion::rate::Rate;
 use wave::phases::phases;
 
@@ -19,12 +19,12 @@ impl Gate {
         self.clock.tick();
     }
 
-    fn encode(&mut self, inputs: Inputs)
+    fn add_count(&mut self, inputs: Inputs)
         requires { IsSound self.old }
-        ensures is { self.new ≡ encode inputs.count self.old }
+        ensures is { self.new ≡ add_count inputs.count self.old }
         ensures sound { IsSound self.new }
     {
-        self.actual = counted(self.actual, inputs.count);
+        self.actual = next_actual(self.actual, inputs.count);
     }
 
     // Trips the limits that are due, the positive one first, and arms the detectors of inactive inputs.
@@ -51,9 +51,9 @@ impl Gate {
     }
 
     // Whether the breakpoint's condition holds.
-    fn meets(&self, home: bool) -> bool
+    fn is_breakpoint_met(&self, home: bool) -> bool
         requires { IsSound self.now }
-        ensures { result ≡ meets home self.now }
+        ensures { result ≡ is_breakpoint_met home self.now }
     {
         let point = self.breakpoint.point;
         match self.breakpoint.mode {
@@ -77,9 +77,9 @@ impl Gate {
         if let BreakMode::Off = self.breakpoint.mode {
             return;
         }
-        if self.meets(home) {
+        if self.is_breakpoint_met(home) {
             self.breakpoint.mode = BreakMode::Off;
-            self.events.reached = true;
+            self.events.breakpoint_reached = true;
             if self.breakpoint.auto {
                 self.latch();
             }
@@ -116,16 +116,16 @@ impl Gate {
         ensures sound { IsSound self.new }
     {
         let velocity = self.next_velocity();
-        let (target, crossed) = advanced(self.motion.target, velocity);
+        let (target, crossed) = next_target(self.motion.target, velocity);
         self.motion.target = target;
         self.motion.velocity = velocity;
         self.events.wrapped |= crossed;
     }
 
     // Whether the gate has a destination, and stands on it.
-    fn arrived(&self) -> bool
+    fn has_arrived(&self) -> bool
         requires { IsSound self.now }
-        ensures { result ≡ arrived self.now.active.mode self.now }
+        ensures { result ≡ has_arrived self.now.active.mode self.now }
     {
         match self.active.mode {
             ProfileMode::Velocity => false,
@@ -134,12 +134,12 @@ impl Gate {
     }
 
     /// Whether the gate stands, and has nowhere to go.
-    pub fn at_rest(&self) -> bool
+    pub fn is_at_rest(&self) -> bool
         requires { IsSound self.now }
-        ensures { result ≡ at_rest self.now }
+        ensures { result ≡ is_at_rest self.now }
     {
         self.motion.velocity == 0
-            && (self.motion.halted || self.active.velocity == 0 || self.arrived())
+            && (self.motion.halted || self.active.velocity == 0 || self.has_arrived())
     }
 
     fn settle(&mut self)
@@ -147,7 +147,7 @@ impl Gate {
         ensures is { self.new ≡ settle self.old }
         ensures sound { IsSound self.new }
     {
-        let rest = self.at_rest();
+        let rest = self.is_at_rest();
         if rest && !self.motion.rested {
             self.events.complete = true;
         }
@@ -177,7 +177,7 @@ impl Gate {
         ensures ordered { StepsInOrder inputs self.old self.new }
     {
         self.tick();
-        self.encode(inputs);
+        self.add_count(inputs);
         self.trip(inputs);
         self.meet(inputs.home);
         self.advance();

@@ -1,5 +1,5 @@
 ghost use Rattle.std.specs.Prelude.{◌≡◌, ◌<◌};
-ghost use Rattle.gate.specs.Events.{all, bit, place, no_events, events_word, keep, raised, weight};
+ghost use Rattle.gate.specs.Events.{event_bits, bit, place, no_events, events_word, keep, has_bit_in, weight};
 
 #[derive(Clone, Copy, PartialEq, Eq, Debug)]
 pub enum Event {
@@ -26,7 +26,7 @@ impl Event {
 pub struct Events {
     pub complete: bool,
     pub wrapped: bool,
-    pub reached: bool,
+    pub breakpoint_reached: bool,
     pub positive: bool,
     pub negative: bool,
     pub error: bool,
@@ -54,13 +54,13 @@ impl Events {
     }
 
     // Each event with its bit.
-    fn all(&self) -> [(Event, bool); 6]
-        ensures { result ≡ all self.now }
+    fn event_bits(&self) -> [(Event, bool); 6]
+        ensures { result ≡ event_bits self.now }
     {
         [
             (Event::MotionComplete, self.complete),
             (Event::WrapAround, self.wrapped),
-            (Event::Breakpoint, self.reached),
+            (Event::Breakpoint, self.breakpoint_reached),
             (Event::PositiveLimit, self.positive),
             (Event::NegativeLimit, self.negative),
             (Event::CommandError, self.error),
@@ -71,7 +71,7 @@ impl Events {
     pub fn word(&self) -> u16
         ensures { result ≡ events_word self.now }
     {
-        self.all()
+        self.event_bits()
             .iter()
             .map(|&(event, set)| weight(event, set))
             .sum()
@@ -84,17 +84,17 @@ impl Events {
     {
         self.complete &= holds(word, Event::MotionComplete);
         self.wrapped &= holds(word, Event::WrapAround);
-        self.reached &= holds(word, Event::Breakpoint);
+        self.breakpoint_reached &= holds(word, Event::Breakpoint);
         self.positive &= holds(word, Event::PositiveLimit);
         self.negative &= holds(word, Event::NegativeLimit);
         self.error &= holds(word, Event::CommandError);
     }
 
     /// Whether a bit is set whose place holds 1 in the mask.
-    pub fn raised(&self, mask: u16) -> bool
-        ensures { result ≡ raised mask self.now }
+    pub fn has_bit_in(&self, mask: u16) -> bool
+        ensures { result ≡ has_bit_in mask self.now }
     {
-        self.all()
+        self.event_bits()
             .iter()
             .any(|&(event, set)| set && holds(mask, event))
     }

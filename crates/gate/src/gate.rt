@@ -1,6 +1,6 @@
 ghost use Rattle.std.specs.Prelude.{◌≡◌, ◌^◌, true, false, pos, ◌*ℤ◌, Decides};
 ghost use Rattle.motion.specs.Course.{IsWithin};
-ghost use Rattle.gate.specs.Gates.{fresh, latch, halted_motion, gate_halted_at, with_command_error, with_events, with_slip, with_motion};
+ghost use Rattle.gate.specs.Gates.{fresh_gate, latch, halted_motion, gate_halted_at, with_command_error, with_events, with_slip, with_motion};
 ghost use Rattle.gate.specs.Events.{keep};
 ghost use Rattle.gate.specs.Sound.{IsSound};
 
@@ -91,7 +91,7 @@ fn whole(position: i32) -> i64
 impl Gate {
     /// The gate after a reset, which keeps the slip mark.
     pub fn fresh(slip: bool) -> Gate
-        ensures is { result ≡ fresh slip }
+        ensures is { result ≡ fresh_gate slip }
         ensures sound { IsSound result }
     {
         Gate {
@@ -146,7 +146,7 @@ impl Gate {
     }
 
     // Sets target and actual position, and halts the gate there.
-    pub(crate) fn place(&mut self, position: i32)
+    pub(crate) fn halt_at(&mut self, position: i32)
         requires { IsWithin (2 ^ 30) position }
         ensures is { self.new ≡ gate_halted_at position self.old }
         ensures sound { IsSound self.old → IsSound self.new }
@@ -157,7 +157,7 @@ impl Gate {
     }
 
     // Notes a command that was refused for its value.
-    pub(crate) fn err(&mut self)
+    pub(crate) fn set_command_error(&mut self)
         ensures is { self.new ≡ with_command_error self.old }
         ensures sound { IsSound self.old → IsSound self.new }
     {

@@ -1,6 +1,6 @@
 ghost use Rattle.std.specs.Prelude.{◌≡◌, true};
-ghost use Rattle.gate.specs.Loads.{with_load, load_fits};
-ghost use Rattle.gate.specs.Laws.{SameAnswersBut, load_sees};
+ghost use Rattle.gate.specs.Loads.{with_load, is_load_in_range};
+ghost use Rattle.gate.specs.Laws.{SameAnswersBut, load_query};
 ghost use Rattle.gate.specs.Sound.{IsSound};
 
 use crate::gate::Gate;
@@ -25,8 +25,8 @@ impl Gate {
     /// Loads one buffered register. The gate runs by it from the next latch on.
     pub fn load(&mut self, load: Load)
         ensures is { self.new ≡ with_load load self.old }
-        ensures sound { load_fits load ≡ true → IsSound self.old → IsSound self.new }
-        ensures quiet { SameAnswersBut (load_sees load) self.old self.new }
+        ensures sound { is_load_in_range load ≡ true → IsSound self.old → IsSound self.new }
+        ensures quiet { SameAnswersBut (load_query load) self.old self.new }
     {
         match load {
             Load::Destination(destination) => self.buffered.destination = destination,

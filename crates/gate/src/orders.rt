@@ -1,10 +1,10 @@
 ghost use Rattle.std.specs.Prelude.{◌≡◌, true, cond, IfSome};
 ghost use Rattle.std.specs.Int.{w32};
 ghost use Rattle.std.proofs.Common.{to_z};
-ghost use Rattle.gate.specs.Loads.{is_in_signed_range, load_fits};
-ghost use Rattle.gate.specs.Orders.{value_if_fits, run, with_word, with_long, run_word, run_long, word_answer, long_answer, word_fits, long_fits};
+ghost use Rattle.gate.specs.Loads.{is_in_signed_range, is_load_in_range};
+ghost use Rattle.gate.specs.Orders.{value_if_fits, run, with_word, with_long, run_word, run_long, word_answer, long_answer, is_word_in_range, is_long_in_range};
 ghost use Rattle.gate.specs.Orders.{order_load, word_load, long_load};
-ghost use Rattle.gate.specs.Laws.{SameAnswersBut, load_sees};
+ghost use Rattle.gate.specs.Laws.{SameAnswersBut, load_query};
 ghost use Rattle.gate.specs.Sound.{IsSound};
 
 use crate::gate::{BreakMode, Gate};
@@ -28,7 +28,7 @@ pub enum Order {
 pub enum WordOrder {
     BufferedPower,
     Power,
-    Status,
+    ClearEvents,
     Mask,
 }
 
@@ -54,13 +54,13 @@ const LARGEST_VELOCITY: u32 = 0x3fff_ffff;
 const SIGNED_END: i32 = 0x4000_0000;
 
 fn power(word: u16) -> Result<u16, OutOfRange>
-    ensures { result ≡ value_if_fits (load_fits (Load.Power word)) word }
+    ensures { result ≡ value_if_fits (is_load_in_range (Load.Power word)) word }
 {
     (word <= LARGEST_POWER).then_some(word).ok_or(OutOfRange)
 }
 
 fn velocity(value: u32) -> Result<u32, OutOfRange>
-    ensures { result ≡ value_if_fits (load_fits (Load.Velocity value)) value }
+    ensures { result ≡ value_if_fits (is_load_in_range (Load.Velocity value)) value }
 {
     (value <= LARGEST_VELOCITY)
         .then_some(value)
@@ -78,7 +78,7 @@ fn position(value: u32) -> Result<i32, OutOfRange>
 }
 
 fn acceleration(value: u32) -> Result<i32, OutOfRange>
-    ensures { result ≡ value_if_fits (load_fits (Load.Acceleration (to_z w32 value)))
+    ensures { result ≡ value_if_fits (is_load_in_range (Load.Acceleration (to_z w32 value)))
         (to_z w32 value) }
 {
     let acceleration = position(value)?;
@@ -92,7 +92,7 @@ impl Gate {
         ensures is { self.new ≡ run order self.old }
         ensures sound { IsSound self.old → IsSound self.new }
         ensures quiet { IfSome (order_load order)
-            (λ load. SameAnswersBut (load_sees load) self.old self.new) }
+            (λ load. SameAnswersBut (load_query load) self.old self.new) }
     {
         match order {
             Order::Mode(mode) => self.load(Load::Mode(mode)),
@@ -108,7 +108,7 @@ impl Gate {
     fn try_word(&mut self, order: WordOrder, word: u16) -> Result<(), OutOfRange>
         ensures answer { result ≡ word_answer order word }
         ensures is { self.new ≡
-            cond (word_fits order word) (with_word order word self.old) self.old }
+            cond (is_word_in_range order word) (with_word order word self.old) self.old }
         ensures sound { IsSound self.old → IsSound self.new }
     {
         match order {
@@ -118,7 +118,7 @@ impl Gate {
                 self.load(Load::Power(power));
                 self.powers.active = power;
             }
-            WordOrder::Status => self.events.keep(word),
+            WordOrder::ClearEvents => self.events.keep(word),
             WordOrder::Mask => self.mask = word,
         }
         Ok(())
@@ -128,7 +128,7 @@ impl Gate {
     fn try_long(&mut self, order: LongOrder, value: u32) -> Result<(), OutOfRange>
         ensures answer { result ≡ long_answer order value }
         ensures is { self.new ≡
-            cond (long_fits order value) (with_long order value self.old) self.old }
+            cond (is_long_in_range order value) (with_long order value self.old) self.old }
         ensures sound { IsSound self.old → IsSound self.new }
     {
         match order {
@@ -136,7 +136,7 @@ impl Gate {
             LongOrder::Velocity => self.load(Load::Velocity(velocity(value)?)),
             LongOrder::Acceleration => self.load(Load::Acceleration(acceleration(value)?)),
             LongOrder::Point => self.breakpoint.point = value,
-            LongOrder::Actual => self.place(position(value)?),
+            LongOrder::Actual => self.halt_at(position(value)?),
         }
         Ok(())
     }
@@ -146,12 +146,13 @@ impl Gate {
         ensures answer { result ≡ word_answer order word }
         ensures is { self.new ≡ run_word order word self.old }
         ensures sound { IsSound self.old → IsSound self.new }
-        ensures quiet { word_fits order word ≡ true →
-            IfSome (word_load order word) (λ load. SameAnswersBut (load_sees load) self.old self.new) }
+        ensures quiet { is_word_in_range order word ≡ true →
+            IfSome (word_load order word)
+            (λ load. SameAnswersBut (load_query load) self.old self.new) }
     {
         let done = self.try_word(order, word);
         if done.is_err() {
-            self.err();
+            self.set_command_error();
         }
         done
     }
@@ -161,12 +162,13 @@ impl Gate {
         ensures answer { result ≡ long_answer order value }
         ensures is { self.new ≡ run_long order value self.old }
         ensures sound { IsSound self.old → IsSound self.new }
-        ensures quiet { long_fits order value ≡ true →
-            IfSome (long_load order value) (λ load. SameAnswersBut (load_sees load) self.old self.new) }
+        ensures quiet { is_long_in_range order value ≡ true →
+            IfSome (long_load order value)
+            (λ load. SameAnswersBut (load_query load) self.old self.new) }
     {
         let done = self.try_long(order, value);
         if done.is_err() {
-            self.err();
+            self.set_command_error();
         }
         done
     }

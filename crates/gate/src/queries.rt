@@ -13,13 +13,13 @@ const AXIS_PLACE: u8 = 12;
 /// What a gate can be asked with an answer of two words.
 #[derive(Clone, Copy, PartialEq, Eq, Debug)]
 pub enum Query {
-    Position,
+    Destination,
     Velocity,
     Acceleration,
     TargetPosition,
     TargetVelocity,
     ActualPosition,
-    CycleTime,
+    ClockTime,
 }
 
 impl Gate {
@@ -28,13 +28,13 @@ impl Gate {
         ensures { result ≡ query_answer query self.now }
     {
         match query {
-            Query::Position => self.buffered.destination.cast_unsigned(),
+            Query::Destination => self.buffered.destination.cast_unsigned(),
             Query::Velocity => self.buffered.velocity,
             Query::Acceleration => self.buffered.acceleration.cast_unsigned(),
             Query::TargetPosition => microsteps(self.motion.target).cast_unsigned(),
             Query::TargetVelocity => self.motion.velocity.cast_unsigned(),
             Query::ActualPosition => self.actual.cast_unsigned(),
-            Query::CycleTime => self.clock.time(),
+            Query::ClockTime => self.clock.time(),
         }
     }
 
@@ -44,7 +44,7 @@ impl Gate {
         requires axis { axis < 4 }
         ensures { result ≡ status_word axis self.now }
     {
-        let moving = u16::from(!self.at_rest()) << IN_MOTION_PLACE;
+        let moving = u16::from(!self.is_at_rest()) << IN_MOTION_PLACE;
         self.events.word() + moving + (u16::from(axis) << AXIS_PLACE)
     }
 
@@ -52,6 +52,6 @@ impl Gate {
     pub fn calls(&self) -> bool
         ensures { result ≡ is_calling self.now }
     {
-        self.events.raised(self.mask)
+        self.events.has_bit_in(self.mask)
     }
 }

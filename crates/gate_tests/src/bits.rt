@@ -3,7 +3,7 @@ use gate::events::{Event, Events};
 const ALL: Events = Events {
     complete: true,
     wrapped: true,
-    reached: true,
+    breakpoint_reached: true,
     positive: true,
     negative: true,
     error: true,
@@ -13,8 +13,8 @@ const ALL: Events = Events {
 fn places(rt: HostRuntime) {
     assert_eq!(rt; ALL.word(), 0b1110_0111);
     assert_eq!(rt; Event::CommandError.place(), 7);
-    assert!(rt; ALL.raised(0b0010_0000));
-    assert!(rt; !ALL.raised(0b1_0001_1000));
+    assert!(rt; ALL.has_bit_in(0b0010_0000));
+    assert!(rt; !ALL.has_bit_in(0b1_0001_1000));
 }
 
 #[test]

@@ -18,7 +18,7 @@ fn limits(rt: HostRuntime) {
     assert!(rt; gate.motion.halted);
     let _ = gate.cycle(BOTH);
     assert_eq!(rt; seen(&gate), (0, 65_536, 33));
-    let _ = gate.run_word(WordOrder::Status, 0);
+    let _ = gate.run_word(WordOrder::ClearEvents, 0);
     let _ = gate.cycle(BOTH);
     assert_eq!(rt; seen(&gate), (0, 65_536, 64));
     assert!(rt; !gate.detectors.negative);

@@ -79,17 +79,17 @@ module _ {S : Type 0} (m : Ghosts S) where
   -- a cycle, by what was put to the gates and what was noted of them
   pub cycled_by : (s t : Bench m) (i j : Inputs) (g h p q : Gate) → Performs m (act_cycle i j) answer_done s.board t.board
       → i ≡ following_inputs g → g ≡ gate_of (state_of s.board.table) 0 → j ≡ following_inputs h → h ≡ gate_of (state_of s.board.table) 1
-      → t.left ≡ with_note p s.left → p ≡ gate_of (state_of t.board.table) 0 → t.right ≡ with_note q s.right
+      → t.notes_one ≡ with_note p s.notes_one → p ≡ gate_of (state_of t.board.table) 0 → t.notes_two ≡ with_note q s.notes_two
       → q ≡ gate_of (state_of t.board.table) 1 → CyclesOnce m s t
-  cycled_by s t i j g h p q did i-is g-is j-is h-is left p-is right q-is =
+  cycled_by s t i j g h p q performs i-is g-is j-is h-is notes_one p-is notes_two q-is =
       let one : i ≡ following_inputs (gate_of (state_of s.board.table) 0) = i-is ∙ ap following_inputs g-is in
       let two : j ≡ following_inputs (gate_of (state_of s.board.table) 1) = j-is ∙ ap following_inputs h-is in
       record {
-        did =
+        performs =
             subst (λ (y : Inputs). Performs m (act_cycle (following_inputs (gate_of (state_of s.board.table) 0)) y) answer_done s.board t.board) two
-            (subst (λ (x : Inputs). Performs m (act_cycle x j) answer_done s.board t.board) one did);
-        left = left ∙ ap (λ x. with_note x s.left) p-is;
-        right = right ∙ ap (λ x. with_note x s.right) q-is;
+            (subst (λ (x : Inputs). Performs m (act_cycle x j) answer_done s.board t.board) one performs);
+        notes_one = notes_one ∙ ap (λ x. with_note x s.notes_one) p-is;
+        notes_two = notes_two ∙ ap (λ x. with_note x s.notes_two) q-is;
       }
 
   -- no cycle, and one more
@@ -102,13 +102,13 @@ module _ {S : Type 0} (m : Ghosts S) where
   run_more n s u t p q = rw add-one (u, p, q)
 
   -- one more lot
-  pub turns_more : (lots : List Lot) (rights : Option (List Lot)) (k : ℕ) (d : Lot) (beside : Option Lot) (s u t : Bench m)
-      → k < length lots → beside ≡ lot_beside rights k → WorksInTurn m lots rights k s u → WorksLot m (get_or lots k d) beside u t
-      → WorksInTurn m lots rights (k + 1) s t
-  turns_more lots rights k d beside s u t l e p w =
+  pub turns_more : (lots : List Lot) (lots_two : Option (List Lot)) (k : ℕ) (d : Lot) (beside : Option Lot) (s u t : Bench m)
+      → k < length lots → beside ≡ lot_beside lots_two k → WorksInTurn m lots lots_two k s u → WorksLot m (get_or lots k d) beside u t
+      → WorksInTurn m lots lots_two (k + 1) s t
+  turns_more lots lots_two k d beside s u t l e p w =
       rw add-one (u, get_or lots k d, p, slice_get-get_or lots k d l, subst (λ (other : Option Lot). WorksLot m (get_or lots k d) other u t) e w)
 
-  -- what is done for the right gate, by whether it has lots
+  -- what is done for gate 2, by whether it has lots
   pub if_lots : (P : Notes → Board S m → Notes → Board S m → Type 0) (o : Option (Bor (List Lot))) (x y z : Notes) (b c d : Board S m) → is_some o ≡ true → z ≡ y → d ≡ c → P x b y c → IfSomething m (λ (lots : List Lot). P) (option_copied o) x b z d
   if_lots P (Some lots) x y z b c d e y-is c-is p = subst (λ (v : Notes). P x b v d) (sym y-is) (subst (λ (v : Board S m). P x b y v) (sym c-is) p)
   if_lots P None x y z b c d e y-is c-is p = cc

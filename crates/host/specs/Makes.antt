@@ -2,7 +2,7 @@
 use Rattle.std.specs.Prelude.{◌≡◌, ℕ, List, ◌++◌, Some, None, Ok, Err, codes, Option, Result, ◌≢◌}
 use Rattle.host.specs.declared.makes.Make.{Make}
 use Rattle.host.specs.declared.makes.Makes.{Makes}
-use Rattle.host.specs.declared.makes.Unnamed.{Unnamed}
+use Rattle.host.specs.declared.makes.UnknownMake.{UnknownMake}
 use Rattle.host.specs.declared.makes.Make.TheVariants.{Dac, Pwm}
 
 abbrev pub make_name : Make → List ℕ
@@ -20,6 +20,6 @@ NamesMakes text (Some p) = text ≡ make_name p.0 ++ (codes "," ++ make_name p.1
 NamesMakes text None = (p : Make × Make) → text ≢ make_name p.0 ++ (codes "," ++ make_name p.1)
 
 -- the makes of board a and board b, or none, where the text names no two
-abbrev pub makes_of : Result Makes Unnamed → Option (Make × Make)
+abbrev pub makes_of : Result Makes UnknownMake → Option (Make × Make)
 makes_of (Ok m) = Some (m.a, m.b)
 makes_of (Err e) = None

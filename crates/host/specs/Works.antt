@@ -13,8 +13,8 @@ use Rattle.gate.specs.declared.orders.LongOrder.TheVariants.{Destination, Veloci
 use Rattle.gate.specs.Inputs.{still_inputs}
 use Rattle.board.specs.declared.board.Board.{Board}
 use Rattle.board.specs.declared.command.Command.TheVariants as command
-use Rattle.board.specs.declared.command.Whose.{Whose}
-use Rattle.board.specs.declared.command.Whose.TheVariants.{First, Second}
+use Rattle.board.specs.declared.command.GateName.{GateName}
+use Rattle.board.specs.declared.command.GateName.TheVariants.{First, Second}
 use Rattle.board.specs.declared.refusal.Refusal.{Refusal}
 use Rattle.board.specs.Own.{answer_done}
 use Rattle.board.specs.Acts.{act_cycle, act_take, gate_of}
@@ -36,16 +36,16 @@ WorkAnswers = List (Result Reply Refusal)
 
 -- what is noted of a gate's work
 pub record Notes : Type 0 where
-  pub whose : Whose
+  pub named : GateName
   pub outcomes : List Outcome
   pub answers : WorkAnswers
 
 abbrev pub notes_of : Work → Notes
-notes_of w = record { whose = w.whose; outcomes = w.outcomes.items; answers = w.answers.items }
+notes_of w = record { named = w.named; outcomes = w.outcomes.items; answers = w.answers.items }
 
 -- of a gate that is yet to be worked
-abbrev pub no_notes : Whose → Notes
-no_notes whose = record { whose = whose; outcomes = []; answers = [] }
+abbrev pub no_notes : GateName → Notes
+no_notes named = record { named = named; outcomes = []; answers = [] }
 
 -- nothing became of a lot yet
 abbrev pub no_outcome : Lot → Outcome
@@ -67,17 +67,17 @@ abbrev pub with_note : Gate → Notes → Notes
 with_note g x = record x { outcomes = outcomes_after g x.outcomes }
 
 -- the packets that make a gate ready: its status, its power, its mask
-abbrev pub ready_packets : Whose → ℕ → ℕ → List Packet
-ready_packets whose power mask =
-    packet.Plain (command.Status whose)
+abbrev pub ready_packets : GateName → ℕ → ℕ → List Packet
+ready_packets named power mask =
+    packet.Plain (command.Status named)
     ∷ (packet.Word (command.Word Power) power
     ∷ (packet.Word (command.Word Mask) mask
     ∷ []))
 
 -- the packets that load a lot: the status of its gate, its registers, and a breakpoint at its time
-abbrev pub load_packets : Whose → Lot → List Packet
-load_packets whose lot =
-    packet.Plain (command.Status whose)
+abbrev pub load_packets : GateName → Lot → List Packet
+load_packets named lot =
+    packet.Plain (command.Status named)
     ∷ (packet.Long (command.Long Destination) (cast_unsigned w32 lot.destination)
     ∷ (packet.Long (command.Long Velocity) lot.velocity
     ∷ (packet.Long (command.Long Acceleration) lot.acceleration
@@ -90,9 +90,9 @@ abbrev pub following_inputs : Gate → Inputs
 following_inputs g =
     record still_inputs { count = int_max (neg_ℤ (pos 32768)) (int_min (microsteps g.motion.target -ℤ g.actual) (pos 32767)) }
 
--- the right gate's lot at a place
+-- gate 2's lot at a place
 abbrev pub lot_beside : Option (List Lot) → ℕ → Option Lot
-lot_beside rights k = option_and_then (λ lots. slice_get lots k) rights
+lot_beside lots_two k = option_and_then (λ lots. slice_get lots k) lots_two
 
 module _ {S : Type 0} (m : Ghosts S) where
   -- board b becomes d by packets that are answered in turn
@@ -108,11 +108,11 @@ module _ {S : Type 0} (m : Ghosts S) where
 
   -- a gate is made ready
   abbrev pub MakesReady : ℕ → ℕ → Notes → Board S m → Notes → Board S m → Type 0
-  MakesReady power mask x b y d = NotesPackets (ready_packets x.whose power mask) x b y d
+  MakesReady power mask x b y d = NotesPackets (ready_packets x.named power mask) x b y d
 
   -- a lot is loaded
   abbrev pub LoadsLot : Lot → Notes → Board S m → Notes → Board S m → Type 0
-  LoadsLot lot x b y d = NotesPackets (load_packets x.whose lot) (with_lot lot x) b y d
+  LoadsLot lot x b y d = NotesPackets (load_packets x.named lot) (with_lot lot x) b y d
 
   -- a slip is taken, and closed with a word that clears motion complete alone
   abbrev pub ServesSlip : Result ℕ Refusal → Notes → Board S m → Notes → Board S m → Type 0
@@ -121,18 +121,18 @@ module _ {S : Type 0} (m : Ghosts S) where
       × (y ≡ with_answers (Ok (Slip n) ∷ (Ok Done ∷ [])) x)
   ServesSlip (Err e) x b y d = Performs m act_take (answer_of_number (Err e)) b d × (y ≡ with_answers (Err e ∷ []) x)
 
-  -- a board, and what is noted of the work of its left gate and its right gate
+  -- a board, and what is noted of the work of gate 1 and of gate 2
   pub record Bench : Type 0 where
     pub board : Board S m
-    pub left : Notes
-    pub right : Notes
+    pub notes_one : Notes
+    pub notes_two : Notes
 
   -- a cycle, in which each encoder follows its motor; each gate's record after it is noted
   pub record CyclesOnce (s t : Bench) : Type 0 where
-    pub did : Performs m (act_cycle (following_inputs (gate_of (board_state s.board) 0))
+    pub performs : Performs m (act_cycle (following_inputs (gate_of (board_state s.board) 0))
         (following_inputs (gate_of (board_state s.board) 1))) answer_done s.board t.board
-    pub left : t.left ≡ with_note (gate_of (board_state t.board) 0) s.left
-    pub right : t.right ≡ with_note (gate_of (board_state t.board) 1) s.right
+    pub notes_one : t.notes_one ≡ with_note (gate_of (board_state t.board) 0) s.notes_one
+    pub notes_two : t.notes_two ≡ with_note (gate_of (board_state t.board) 1) s.notes_two
 
   -- so many cycles
   unfoldable pub RunsFor : ℕ → Bench → Bench → Type 0
@@ -140,11 +140,11 @@ module _ {S : Type 0} (m : Ghosts S) where
   RunsFor (suc n) s t = (u : Bench) × RunsFor n s u × CyclesOnce u t
 
   -- what is done for one gate, and the other's notes stay
-  abbrev pub AtLeft : (Notes → Board S m → Notes → Board S m → Type 0) → Bench → Bench → Type 0
-  AtLeft P s t = P s.left s.board t.left t.board × (t.right ≡ s.right)
+  abbrev pub ForGateOne : (Notes → Board S m → Notes → Board S m → Type 0) → Bench → Bench → Type 0
+  ForGateOne P s t = P s.notes_one s.board t.notes_one t.board × (t.notes_two ≡ s.notes_two)
 
-  abbrev pub AtRight : (Notes → Board S m → Notes → Board S m → Type 0) → Bench → Bench → Type 0
-  AtRight P s t = P s.right s.board t.right t.board × (t.left ≡ s.left)
+  abbrev pub ForGateTwo : (Notes → Board S m → Notes → Board S m → Type 0) → Bench → Bench → Type 0
+  ForGateTwo P s t = P s.notes_two s.board t.notes_two t.board × (t.notes_one ≡ s.notes_one)
 
   -- what is done for a gate, if there is something to do it with
   abbrev pub IfSomething : {T : Type 0} → (T → Notes → Board S m → Notes → Board S m → Type 0) → Option T → Notes → Board S m → Notes →
@@ -152,34 +152,34 @@ module _ {S : Type 0} (m : Ghosts S) where
   IfSomething P (Some z) x b y d = P z x b y d
   IfSomething P None x b y d = (y ≡ x) × (d ≡ b)
 
-  -- one lot of the left gate from its load to its service, and the right gate's beside it
+  -- one lot of gate 1 from its load to its service, and gate 2's beside it
   pub record WorksLot (lot : Lot) (beside : Option Lot) (s t : Bench) : Type 0 where
     pub loaded : Bench
     pub both : Bench
     pub ran : Bench
     pub taken : Result ℕ Refusal
-    pub left_loads : AtLeft (LoadsLot lot) s loaded
-    pub right_loads : AtRight (IfSomething LoadsLot beside) loaded both
+    pub one_loads : ForGateOne (LoadsLot lot) s loaded
+    pub two_loads : ForGateTwo (IfSomething LoadsLot beside) loaded both
     pub runs : RunsFor 160 both ran
-    pub left_served : AtLeft (ServesSlip taken) ran t
+    pub one_served : ForGateOne (ServesSlip taken) ran t
 
-  -- so many of the left gate's lots in their order, and beside each the right gate's of the same place, if that gate is to work
+  -- so many of gate 1's lots in their order, and beside each gate 2's of the same place, if that gate is to work
   abbrev pub WorksInTurn : List Lot → Option (List Lot) → ℕ → Bench → Bench → Type 0
-  WorksInTurn lots rights zero s t = s ≡ t
-  WorksInTurn lots rights (suc k) s t =
-      (u : Bench) × (lot : Lot) × WorksInTurn lots rights k s u × (slice_get lots k ≡ Some lot) × WorksLot lot (lot_beside rights k) u t
+  WorksInTurn lots lots_two zero s t = s ≡ t
+  WorksInTurn lots lots_two (suc k) s t =
+      (u : Bench) × (lot : Lot) × WorksInTurn lots lots_two k s u × (slice_get lots k ≡ Some lot) × WorksLot lot (lot_beside lots_two k) u t
 
-  -- all the lots: each gate that works is made ready with its power and its mask, the left one first, and then come the turns
-  pub record WorksAll (lots : List Lot) (rights : Option (List Lot)) (s t : Bench) : Type 0 where
+  -- all the lots: each gate that works is made ready with its power and its mask, gate 1 first, and then come the turns
+  pub record WorksAll (lots : List Lot) (lots_two : Option (List Lot)) (s t : Bench) : Type 0 where
     pub ready : Bench
     pub both : Bench
-    pub left_ready : AtLeft (MakesReady 20000 1) s ready
-    pub right_ready : AtRight (IfSomething (λ (rs : List Lot). MakesReady 12000 0) rights) ready both
-    pub turns : WorksInTurn lots rights (length lots) both t
+    pub one_ready : ForGateOne (MakesReady 20000 1) s ready
+    pub two_ready : ForGateTwo (IfSomething (λ (rs : List Lot). MakesReady 12000 0) lots_two) ready both
+    pub turns : WorksInTurn lots lots_two (length lots) both t
 
   -- a board with the works of its two gates, and one whose gates are yet to be worked
   abbrev pub bench_of : Board S m → Work → Work → Bench
-  bench_of b left right = record { board = b; left = notes_of left; right = notes_of right }
+  bench_of b notes_one notes_two = record { board = b; notes_one = notes_of notes_one; notes_two = notes_of notes_two }
 
   abbrev pub new_bench : Board S m → Bench
-  new_bench b = record { board = b; left = no_notes First; right = no_notes Second }
+  new_bench b = record { board = b; notes_one = no_notes First; notes_two = no_notes Second }

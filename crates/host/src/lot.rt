@@ -20,7 +20,7 @@ pub struct Lot {
 /// The cycles that a lot is given.
 pub const CYCLES: u32 = 160;
 
-pub const LEFT: [Lot; 3] = [
+pub const LOTS_ONE: [Lot; 3] = [
     Lot {
         destination: 1200,
         velocity: 1_310_720,
@@ -41,7 +41,7 @@ pub const LEFT: [Lot; 3] = [
     },
 ];
 
-pub const RIGHT: [Lot; 3] = [
+pub const LOTS_TWO: [Lot; 3] = [
     Lot {
         destination: 700,
         velocity: 655_360,

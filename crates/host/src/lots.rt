@@ -8,7 +8,7 @@ ghost use Rattle.desk.specs.Desks.{board_of};
 ghost use Rattle.board.specs.Runs.{board_state};
 
 use crate::lot::{CYCLES, Lot, Outcome};
-use board::command::{Command, Whose};
+use board::command::{Command, GateName};
 use board::refusal::Refusal;
 use desk::desk::Desk;
 use gate::gate::{BreakMode, Gate};
@@ -24,7 +24,7 @@ use std::alloc::{AllocError, Global};
 /// What one gate did with its lots, and what its packets and slips were answered.
 #[derive(Drop)]
 pub struct Work {
-    whose: Whose,
+    named: GateName,
     pub outcomes: Vec<Outcome>,
     pub answers: Vec<Result<Reply, Refusal>>,
 }
@@ -33,11 +33,11 @@ pub struct Work {
 const SERVED: u16 = 0xfffe;
 
 impl Work {
-    fn new(heap: Global, whose: Whose) -> Work
-        ensures { notes_of result ≡ no_notes whose }
+    fn new(heap: Global, named: GateName) -> Work
+        ensures { notes_of result ≡ no_notes named }
     {
         Work {
-            whose,
+            named,
             outcomes: Vec::new(heap),
             answers: Vec::new(heap),
         }
@@ -50,8 +50,8 @@ impl Work {
         packets: &[Packet],
     ) -> Result<(), AllocError>
         ensures { OnOk result
-            (NotesPackets S.Stage packets.now (notes_of self.old) (board_of desk.old) (notes_of self.new)
-            (board_of desk.new)) }
+            (NotesPackets S.Stage packets.now (notes_of self.old) (board_of desk.old)
+            (notes_of self.new) (board_of desk.new)) }
     {
         for packet in packets {
             self.answers.push(play_packet(desk, *packet))?;
@@ -67,11 +67,11 @@ impl Work {
         mask: u16,
     ) -> Result<(), AllocError>
         ensures { OnOk result
-            (MakesReady S.Stage power mask (notes_of self.old) (board_of desk.old) (notes_of self.new)
-            (board_of desk.new)) }
+            (MakesReady S.Stage power mask (notes_of self.old) (board_of desk.old)
+            (notes_of self.new) (board_of desk.new)) }
     {
         let packets = [
-            Packet::Plain(Command::Status(self.whose)),
+            Packet::Plain(Command::Status(self.named)),
             Packet::Word(Command::Word(WordOrder::Power), power),
             Packet::Word(Command::Word(WordOrder::Mask), mask),
         ];
@@ -87,7 +87,7 @@ impl Work {
         self.outcomes.push(Outcome::new(lot))?;
         let destination = lot.destination.cast_unsigned();
         let packets = [
-            Packet::Plain(Command::Status(self.whose)),
+            Packet::Plain(Command::Status(self.named)),
             Packet::Long(Command::Long(LongOrder::Destination), destination),
             Packet::Long(Command::Long(LongOrder::Velocity), lot.velocity),
             Packet::Long(Command::Long(LongOrder::Acceleration), lot.acceleration),
@@ -162,34 +162,35 @@ fn follow(gate: Gate) -> Inputs
 }
 
 // Runs the cycles of a lot, and notes what both gates do.
-fn run<S: Stage + Drop>(desk: &mut Desk<S>, left: &mut Work, right: &mut Work)
-    ensures { RunsFor S.Stage 160 (bench_of S.Stage (board_of desk.old) left.old right.old)
-        (bench_of S.Stage (board_of desk.new) left.new right.new) }
+fn run<S: Stage + Drop>(desk: &mut Desk<S>, work_one: &mut Work, work_two: &mut Work)
+    ensures { RunsFor S.Stage 160 (bench_of S.Stage (board_of desk.old) work_one.old work_two.old)
+        (bench_of S.Stage (board_of desk.new) work_one.new work_two.new) }
 {
     for _cycle in 0..CYCLES {
         let (one, two) = (follow(record(desk, 1)), follow(record(desk, 2)));
         desk.cycle(one, two);
-        left.note(record(desk, 1));
-        right.note(record(desk, 2));
+        work_one.note(record(desk, 1));
+        work_two.note(record(desk, 2));
     }
 }
 
-// Works a lot of the left gate, and one of the right gate beside it, if there is one.
+// Works a lot of gate 1, and one of gate 2 beside it, if there is one.
 fn work_lot<S: Stage + Drop>(
     desk: &mut Desk<S>,
-    left: &mut Work,
-    right: &mut Work,
+    work_one: &mut Work,
+    work_two: &mut Work,
     lot: Lot,
     beside: Option<Lot>,
 ) -> Result<(), AllocError>
     ensures { OnOk result
-        (WorksLot S.Stage lot beside (bench_of S.Stage (board_of desk.old) left.old right.old)
-        (bench_of S.Stage (board_of desk.new) left.new right.new)) }
+        (WorksLot S.Stage lot beside
+        (bench_of S.Stage (board_of desk.old) work_one.old work_two.old)
+        (bench_of S.Stage (board_of desk.new) work_one.new work_two.new)) }
 {
-    left.order(desk, lot)?;
-    right.order_if(desk, beside)?;
-    run(desk, left, right);
-    left.serve(desk)
+    work_one.order(desk, lot)?;
+    work_two.order_if(desk, beside)?;
+    run(desk, work_one, work_two);
+    work_one.serve(desk)
 }
 
 // The lot at a place, if there are lots.
@@ -202,25 +203,26 @@ fn lot_at<const N: usize>(lots: Option<&[Lot; N]>, index: usize) -> Option<Lot>
     }
 }
 
-/// Works the lots of the left gate, and beside each of them one of the right gate, if that gate is to work.
+/// Works the lots of gate 1, and beside each of them one of gate 2, if that gate is to work.
 pub fn work_lots<S: Stage + Drop, const N: usize>(
     heap: Global,
     desk: &mut Desk<S>,
-    left: &[Lot; N],
-    right: Option<&[Lot; N]>,
+    lots_one: &[Lot; N],
+    lots_two: Option<&[Lot; N]>,
 ) -> Result<(Work, Work), AllocError>
     ensures { IfOk result
-        (λ works. WorksAll S.Stage left.now (option_copied right.entry)
-        (new_bench S.Stage (board_of desk.old)) (bench_of S.Stage (board_of desk.new) works.0 works.1)) }
+        (λ works. WorksAll S.Stage lots_one.now (option_copied lots_two.entry)
+        (new_bench S.Stage (board_of desk.old))
+        (bench_of S.Stage (board_of desk.new) works.0 works.1)) }
 {
-    let mut one = Work::new(heap, Whose::First);
-    let mut two = Work::new(heap, Whose::Second);
+    let mut one = Work::new(heap, GateName::First);
+    let mut two = Work::new(heap, GateName::Second);
     one.prepare(desk, 20_000, 1)?;
-    if right.is_some() {
+    if lots_two.is_some() {
         two.prepare(desk, 12_000, 0)?;
     }
-    for (index, lot) in left.iter().enumerate() {
-        work_lot(desk, &mut one, &mut two, *lot, lot_at(right, index))?;
+    for (index, lot) in lots_one.iter().enumerate() {
+        work_lot(desk, &mut one, &mut two, *lot, lot_at(lots_two, index))?;
     }
     Ok((one, two))
 }

@@ -23,18 +23,18 @@ pub struct Makes {
 /// A word that names no make, or words that name no two.
 #[derive(Clone, Copy, Debug, PartialEq, Eq, Error)]
 #[error("a make is dac or pwm")]
-pub struct Unnamed;
+pub struct UnknownMake;
 
 impl FromStr for Make {
-    type Err = Unnamed;
+    type Err = UnknownMake;
 
     ghost from_str_gives = { λ word r. NamesMake word (result_ok r) };
 
-    fn from_str(word: &str) -> Result<Make, Unnamed> {
+    fn from_str(word: &str) -> Result<Make, UnknownMake> {
         match word {
             "dac" => Ok(Make::Dac),
             "pwm" => Ok(Make::Pwm),
-            _ => Err(Unnamed),
+            _ => Err(UnknownMake),
         }
     }
 }
@@ -52,12 +52,12 @@ impl fmt::Display for Make {
 
 // Two makes are written with a comma between.
 impl FromStr for Makes {
-    type Err = Unnamed;
+    type Err = UnknownMake;
 
     ghost from_str_gives = { λ text r. NamesMakes text (makes_of r) };
 
-    fn from_str(text: &str) -> Result<Makes, Unnamed> {
-        let (a, b) = text.split_once(',').ok_or(Unnamed)?;
+    fn from_str(text: &str) -> Result<Makes, UnknownMake> {
+        let (a, b) = text.split_once(',').ok_or(UnknownMake)?;
         Ok(Makes {
             a: a.parse()?,
             b: b.parse()?,

@@ -1,4 +1,4 @@
-use crate::lot::{HEADING, LEFT, RIGHT};
+use crate::lot::{HEADING, LOTS_ONE, LOTS_TWO};
 use crate::lots::{Work, work_lots};
 use crate::makes::Makes;
 use board::board::Board;
@@ -36,24 +36,24 @@ fn show_comparison<S: Stage + Drop, R: Stage + Drop>(
     Ok(())
 }
 
-/// Works lots through both gates of board a, then those of the left gate alone on board b, and compares the boards.
+/// Works lots through both gates of board a, then those of gate 1 alone on board b, and compares the boards.
 pub fn show_lots<S: Stage + Drop, R: Stage + Drop>(
     rt: &HostRuntime,
     makes: Makes,
     a: &mut Desk<S>,
     b: &mut Desk<R>,
 ) -> anyhow::Result<()> {
-    let (left, right) = work_lots(rt.alloc(), a, &LEFT, Some(&RIGHT))?;
-    let (again, _idle) = work_lots(rt.alloc(), b, &LEFT, None)?;
+    let (one, two) = work_lots(rt.alloc(), a, &LOTS_ONE, Some(&LOTS_TWO))?;
+    let (again, _idle) = work_lots(rt.alloc(), b, &LOTS_ONE, None)?;
     let (first, second) = (makes.a, makes.b);
     println!(rt; "board a, over {first}: lots through both gates")?;
-    show_work(rt, 1, &left)?;
-    show_work(rt, 2, &right)?;
+    show_work(rt, 1, &one)?;
+    show_work(rt, 2, &two)?;
     println!(rt; "board b, over {second}: the same lots through gate 1, gate 2 idle")?;
     show_work(rt, 1, &again)?;
     println!(rt; "the two boards compared")?;
-    let count = left.answers.len();
-    let same = alike(left.answers.as_slice(), again.answers.as_slice());
+    let count = one.answers.len();
+    let same = alike(one.answers.as_slice(), again.answers.as_slice());
     println!(rt; "gate 1: {same} of {count} answers alike")?;
     show_comparison(rt, a.board(), b.board(), 1)?;
     show_comparison(rt, a.board(), b.board(), 2)

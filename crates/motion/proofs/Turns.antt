@@ -5,12 +5,12 @@ use lib.Signed.{lt_z, le_z}
 use Rattle.std.specs.Int.{int_rem_euclid}
 use Rattle.std.proofs.lemmas.Nat.{div-add-mod'}
 use Rattle.std.proofs.lemmas.Int.{ints, int_rem_euclid_is}
-use Rattle.motion.specs.Course.{IsWithin, wrapped, wraps}
+use Rattle.motion.specs.Course.{IsWithin, wrap, is_outside}
 
 -- the number in range that lies whole turns away, j up or k down
 pub wrapped_is : (half : ℕ) (z r : ℤ) (k j : ℕ) → IsWithin half r → z +ℤ pos (k * (2 * half)) ≡ r +ℤ pos (j * (2 * half))
-    → wrapped half z ≡ r
-unfolding wrapped
+    → wrap half z ≡ r
+unfolding wrap
 wrapped_is half z r k j w e =
     let m = nat_abs (r +ℤ pos half) in
     let s : r +ℤ pos half ≡ pos m = omega (arith, ints, w.low, w.high) in
@@ -26,26 +26,26 @@ neither : (a b : Bool) → (a || b) ≡ false → (a ≡ false) × (b ≡ false)
 neither a b e = grind arith
 
 -- a number in range does not wrap
-pub wraps_not : (half : ℕ) (z : ℤ) → IsWithin half z → wraps half z ≡ false
-unfolding wraps
+pub wraps_not : (half : ℕ) (z : ℤ) → IsWithin half z → is_outside half z ≡ false
+unfolding is_outside
 wraps_not half z w = grind (arith, ints, w.low, w.high)
 
 -- a number that does not wrap is in range
-pub is_within : (half : ℕ) (z : ℤ) → wraps half z ≡ false → IsWithin half z
-unfolding wraps
+pub is_within : (half : ℕ) (z : ℤ) → is_outside half z ≡ false → IsWithin half z
+unfolding is_outside
 is_within half z e =
     let n = neither (lt_z z (neg_ℤ (pos half))) (le_z (pos half) z) e in
     record { low = omega (arith, ints, n.0); high = omega (arith, ints, n.1) }
 
 -- a number wraps exactly if it changes
-pub wraps_is : (half : ℕ) (z r : ℤ) (same : Bool) → IsWithin half r → r ≡ wrapped half z → (same ≡ true → r ≡ z)
-    → (same ≡ false → r ≡ z → ⊥) → not same ≡ wraps half z
+pub wraps_is : (half : ℕ) (z r : ℤ) (same : Bool) → IsWithin half r → r ≡ wrap half z → (same ≡ true → r ≡ z)
+    → (same ≡ false → r ≡ z → ⊥) → not same ≡ is_outside half z
 wraps_is half z r true w e s d =
     let P : ℤ → Type 0 = IsWithin half in
     sym (wraps_not half z (subst P (s refl) w))
-wraps_is half z r false w e s d = go (wraps half z) refl
+wraps_is half z r false w e s d = go (is_outside half z) refl
   where
-    go : (b : Bool) → wraps half z ≡ b → true ≡ wraps half z
+    go : (b : Bool) → is_outside half z ≡ b → true ≡ is_outside half z
     go true f = sym f
     go false f = absurd (d refl (e ∙ wrapped_is half z z 0 0 (is_within half z f) refl))
 

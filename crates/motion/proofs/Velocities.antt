@@ -3,8 +3,8 @@ use Rattle.std.proofs.Common.{◌≡◌, ℕ, zero, suc, ◌+◌, ◌-◌, ◌<�
 use lib.Signed.{lt_z}
 use Rattle.std.proofs.lemmas.Int.{ints, clamps}
 use Rattle.motion.specs.StoppingDistance.{stopping_distance}
-use Rattle.motion.specs.Speed.{largest}
-use Rattle.motion.specs.Course.{toward, must_decelerate, next_speed, along, trapezoid, cruise}
+use Rattle.motion.specs.Speed.{largest_speed}
+use Rattle.motion.specs.Course.{toward, must_decelerate, next_speed, with_sign_of, trapezoid, cruise}
 use Rattle.motion.proofs.Falling.{stopping_distance_step}
 use Rattle.motion.proofs.Fastest.{largest_is}
 
@@ -25,20 +25,20 @@ unfolding toward
 toward_zero v by = omega (arith, ints, clamps)
 
 -- the sign of a negative distance
-pub along_back : (d : ℤ) (n : ℕ) → d <ℤ pos 0 → along d n ≡ neg_ℤ (pos n)
-unfolding along
+pub along_back : (d : ℤ) (n : ℕ) → d <ℤ pos 0 → with_sign_of d n ≡ neg_ℤ (pos n)
+unfolding with_sign_of
 along_back (pos d) n h = absurd (omega (arith, ints))
 along_back (negsuc d) n h = refl
 
 -- the sign of any other
-pub along_on : (d : ℤ) (n : ℕ) → pos 0 ≤ℤ d → along d n ≡ pos n
-unfolding along
+pub along_on : (d : ℤ) (n : ℕ) → pos 0 ≤ℤ d → with_sign_of d n ≡ pos n
+unfolding with_sign_of
 along_on (pos d) n h = refl
 along_on (negsuc d) n h = absurd (omega (arith, ints))
 
 -- the sign changes no size
-along_size : (d : ℤ) (n : ℕ) → nat_abs (along d n) ≡ n
-unfolding along
+along_size : (d : ℤ) (n : ℕ) → nat_abs (with_sign_of d n) ≡ n
+unfolding with_sign_of
 along_size (pos d) n = refl
 along_size (negsuc d) n = omega (arith, ints)
 
@@ -79,7 +79,7 @@ next_speed_stops : (u top rate distance : ℕ) → stopping_distance rate (u - r
     → stopping_distance rate (next_speed u top rate distance) ≤ distance
 unfolding next_speed
 next_speed_stops u top rate distance h =
-    let s = largest rate distance (min top (u + rate)) in
+    let s = largest_speed rate distance (min top (u + rate)) in
     let fits = (largest_is rate distance (min top (u + rate))).fits in
     elim (either s (u - rate)) [ inl e ↦ omega (arith, fits, ap (stopping_distance rate) e) | inr e ↦ omega (arith, ap (stopping_distance rate) e) ]
 
@@ -90,14 +90,14 @@ trapezoid_decelerates v top rate d e = rw e
 
 -- a gate that runs
 pub trapezoid_runs : (v : ℤ) (top rate : ℕ) (d : ℤ) → must_decelerate v d ≡ false
-    → trapezoid v top rate d ≡ along d (next_speed (nat_abs v) top rate (nat_abs d))
+    → trapezoid v top rate d ≡ with_sign_of d (next_speed (nat_abs v) top rate (nat_abs d))
 unfolding trapezoid
 trapezoid_runs v top rate d e = rw e
 
 -- of a gate that runs, a speed near the last is a velocity as near
 along_step : (v d : ℤ) (rate n : ℕ) → must_decelerate v d ≡ false → (nat_abs v ≤ n + rate) × (n ≤ nat_abs v + rate)
-    → nat_abs (along d n -ℤ v) ≤ rate
-unfolding must_decelerate along
+    → nat_abs (with_sign_of d n -ℤ v) ≤ rate
+unfolding must_decelerate with_sign_of
 along_step v (pos zero) rate n e h = absurd (true≢false e)
 along_step v (pos (suc d)) rate n e h = omega (arith, ints)
 along_step v (negsuc d) rate n e h = omega (arith, ints)
@@ -105,7 +105,7 @@ along_step v (negsuc d) rate n e h = omega (arith, ints)
 module _ (v : ℤ) (top rate : ℕ) (d r : ℤ) (is : r ≡ trapezoid v top rate d) where
   -- the two cases of the next velocity
   by_must_decelerate : {P : Type 0} → (r ≡ toward v (pos 0) rate → P)
-      → (must_decelerate v d ≡ false → r ≡ along d (next_speed (nat_abs v) top rate (nat_abs d)) → P) → P
+      → (must_decelerate v d ≡ false → r ≡ with_sign_of d (next_speed (nat_abs v) top rate (nat_abs d)) → P) → P
   by_must_decelerate {P} halted runs = go (must_decelerate v d) refl
     where
       go : (b : Bool) → must_decelerate v d ≡ b → P
@@ -142,9 +142,9 @@ module _ (v : ℤ) (top : ℕ) (acceleration r : ℤ) (is : r ≡ cruise v top a
   pub cruise_size : nat_abs r ≤ max (nat_abs v) top
   unfolding cruise
   cruise_size =
-      omega (arith, toward_size v (along acceleration top) (nat_abs acceleration) r is, along_size acceleration top)
+      omega (arith, toward_size v (with_sign_of acceleration top) (nat_abs acceleration) r is, along_size acceleration top)
 
   -- it lies within the acceleration of the last
   pub cruise_step : nat_abs (r -ℤ v) ≤ nat_abs acceleration
   unfolding cruise
-  cruise_step = toward_step v (along acceleration top) (nat_abs acceleration) r is
+  cruise_step = toward_step v (with_sign_of acceleration top) (nat_abs acceleration) r is

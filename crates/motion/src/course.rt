@@ -1,5 +1,5 @@
 ghost use Rattle.std.specs.Prelude.{◌≡◌, ◌*◌, ◌%◌, ◌^◌, ◌<◌, ◌≤◌, max, pos, ◌-ℤ◌, ◌≤ℤ◌, ◌<ℤ◌, unsigned_abs};
-ghost use Rattle.motion.specs.Course.{IsWithin, advanced, along, counted, crosses, cruise, distance_to, must_decelerate, toward, microsteps, wrapped};
+ghost use Rattle.motion.specs.Course.{IsWithin, next_target, with_sign_of, next_actual, is_crossing_end, cruise, distance_to, must_decelerate, toward, microsteps, wrap};
 
 /// A microstep in the unit of target positions.
 pub const MICROSTEP: i64 = 65_536;
@@ -25,9 +25,9 @@ pub fn toward(v: i32, target: i32, by: u32) -> i32
 
 // The size with the sign of `d`.
 #[tactic(auto, using(crate::proofs::Velocities::along_back, crate::proofs::Velocities::along_on))]
-pub(crate) fn along(d: i64, size: u32) -> i32
+pub(crate) fn with_sign_of(d: i64, size: u32) -> i32
     requires { size < 2 ^ 30 }
-    ensures is { result ≡ along d size }
+    ensures is { result ≡ with_sign_of d size }
     ensures size { unsigned_abs result ≡ size }
 {
     if d < 0 { -(size as i32) } else { size as i32 }
@@ -58,17 +58,17 @@ pub fn cruise(v: i32, top: u32, acceleration: i32) -> i32
     ensures step { unsigned_abs (result -ℤ v) ≤ unsigned_abs acceleration }
     ensures range { unsigned_abs result < 2 ^ 30 }
 {
-    let target = along(i64::from(acceleration), top);
+    let target = with_sign_of(i64::from(acceleration), top);
     toward(v, target, acceleration.unsigned_abs())
 }
 
 // `z` brought into -half .. half - 1 by whole turns, of which 64 bits hold a whole number.
-fn wrapped(z: i64, half: i64) -> i64
+fn wrap(z: i64, half: i64) -> i64
     requires positive { pos 0 <ℤ half }
     requires bounded { half ≤ℤ pos (2 ^ 46) }
     requires whole { 2 ^ 64 % (2 * unsigned_abs half) ≡ 0 }
     requires near { unsigned_abs z < 2 ^ 48 }
-    ensures is { result ≡ wrapped (unsigned_abs half) z }
+    ensures is { result ≡ wrap (unsigned_abs half) z }
     ensures range { IsWithin (unsigned_abs half) result }
 {
     let turn = (2 * half).cast_unsigned();
@@ -76,15 +76,15 @@ fn wrapped(z: i64, half: i64) -> i64
 }
 
 /// The target position a cycle later, and whether it crossed an end of its range: both always hold, as of `overflowing_add`.
-pub fn advanced(p: i64, v: i32) -> (i64, bool)
+pub fn next_target(p: i64, v: i32) -> (i64, bool)
     requires position { IsWithin (2 ^ 46) p }
     requires speed { unsigned_abs v < 2 ^ 30 }
-    ensures is { result.0 ≡ advanced p v }
-    ensures crossed { result.1 ≡ crosses p v }
+    ensures is { result.0 ≡ next_target p v }
+    ensures crossed { result.1 ≡ is_crossing_end p v }
     ensures range { IsWithin (2 ^ 46) result.0 }
 {
     let sum = p + i64::from(v);
-    let next = wrapped(sum, POSITION_END);
+    let next = wrap(sum, POSITION_END);
     (next, next != sum)
 }
 
@@ -110,10 +110,10 @@ pub fn distance(destination: i32, p: i64) -> i64
 }
 
 /// The encoder's position after a count.
-pub fn counted(position: i32, count: i16) -> i32
+pub fn next_actual(position: i32, count: i16) -> i32
     requires { IsWithin (2 ^ 30) position }
-    ensures is { result ≡ counted position count }
+    ensures is { result ≡ next_actual position count }
     ensures range { IsWithin (2 ^ 30) result }
 {
-    wrapped(i64::from(position) + i64::from(count), COUNT_END) as i32
+    wrap(i64::from(position) + i64::from(count), COUNT_END) as i32
 }

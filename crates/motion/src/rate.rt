@@ -1,9 +1,9 @@
 ghost use Rattle.std.specs.Prelude.{◌≡◌, ◌+◌, ◌-◌, ◌^◌, ◌<◌, ◌≤◌, max, nat_le, ◌-ℤ◌, unsigned_abs};
 ghost use Rattle.motion.specs.StoppingDistance.{stopping_distance};
-ghost use Rattle.motion.specs.Speed.{largest, IsLargest};
+ghost use Rattle.motion.specs.Speed.{largest_speed, IsLargestSpeed};
 ghost use Rattle.motion.specs.Course.{next_speed, trapezoid};
 
-use crate::course::{along, must_decelerate, toward};
+use crate::course::{must_decelerate, toward, with_sign_of};
 
 // The widest span that `bisect` takes: 29 halvings leave 1 of it.
 const SPAN: u32 = 1 << 29;
@@ -68,11 +68,11 @@ impl Rate {
     /// top. The second is whether more than the floor fits, so that a gate that slows all it can asks no third, unless the top lies more
     /// than SPAN above: then it is the speed that lies SPAN below the top. None asks more than 31.
     #[tactic(auto, using(crate::proofs::Falling::stopping_distance_zero, crate::proofs::Fastest::largest_all, crate::proofs::Fastest::largest_below, crate::proofs::Fastest::largest_found))]
-    pub fn largest(self, distance: u64, floor: u32, top: u32) -> u32
+    pub fn largest_speed(self, distance: u64, floor: u32, top: u32) -> u32
         requires floor { floor < 2 ^ 30 }
         requires top { top < 2 ^ 30 }
-        ensures is { result ≡ max (largest self.size distance top) floor }
-        ensures best { floor < result → IsLargest self.size distance top result }
+        ensures is { result ≡ max (largest_speed self.size distance top) floor }
+        ensures best { floor < result → IsLargestSpeed self.size distance top result }
     {
         if floor >= top {
             return floor;
@@ -100,7 +100,7 @@ impl Rate {
         ensures range { result < 2 ^ 30 }
     {
         let slowed = speed.saturating_sub(self.size);
-        self.largest(distance, slowed, top.min(speed + self.size))
+        self.largest_speed(distance, slowed, top.min(speed + self.size))
     }
 
     /// The next velocity on the way to a destination at the distance. A gate that can stop within the distance still can after this cycle.
@@ -113,13 +113,14 @@ impl Rate {
         ensures step { unsigned_abs (result -ℤ v) ≤ self.size }
         ensures stops { stopping_distance self.size (unsigned_abs v - self.size) ≤
             unsigned_abs distance →
-            unsigned_abs result + stopping_distance self.size (unsigned_abs result - self.size) ≤ unsigned_abs distance }
+            unsigned_abs result + stopping_distance self.size (unsigned_abs result - self.size) ≤
+            unsigned_abs distance }
         ensures range { unsigned_abs result < 2 ^ 30 }
     {
         if must_decelerate(v, distance) {
             return toward(v, 0, self.size);
         }
         let speed = self.next_speed(v.unsigned_abs(), top, distance.unsigned_abs());
-        along(distance, speed)
+        with_sign_of(distance, speed)
     }
 }

@@ -1,4 +1,4 @@
-use crate::course::{advanced, counted, cruise, distance, microsteps, toward};
+use crate::course::{cruise, distance, microsteps, next_actual, next_target, toward};
 use crate::rate::Rate;
 
 #[test]
@@ -16,28 +16,31 @@ fn reaches(rt: HostRuntime) {
 #[test]
 fn searches(rt: HostRuntime) {
     assert_eq!(rt;
-        Rate { size: 1901 }.largest(17_515_529_401_685, 0, 1_073_741_823),
+        Rate { size: 1901 }.largest_speed(17_515_529_401_685, 0, 1_073_741_823),
         258_057_265
     );
     assert_eq!(rt;
-        Rate { size: 817 }.largest(10_916_795_706_014, 0, 1_073_741_823),
+        Rate { size: 817 }.largest_speed(10_916_795_706_014, 0, 1_073_741_823),
         133_558_732
     );
-    assert_eq!(rt; Rate { size: 16_384 }.largest(49_152, 5, 40_000), 32_768);
     assert_eq!(rt;
-        Rate { size: 16_384 }.largest(49_152, 32_768, 40_000),
+        Rate { size: 16_384 }.largest_speed(49_152, 5, 40_000),
         32_768
     );
     assert_eq!(rt;
-        Rate { size: 16_384 }.largest(49_152, 33_000, 40_000),
+        Rate { size: 16_384 }.largest_speed(49_152, 32_768, 40_000),
+        32_768
+    );
+    assert_eq!(rt;
+        Rate { size: 16_384 }.largest_speed(49_152, 33_000, 40_000),
         33_000
     );
     assert_eq!(rt;
-        Rate { size: 16_384 }.largest(49_152, 41_000, 40_000),
+        Rate { size: 16_384 }.largest_speed(49_152, 41_000, 40_000),
         41_000
     );
     assert_eq!(rt;
-        Rate { size: 1 << 30 }.largest(700_000_000, 3, 1_073_741_823),
+        Rate { size: 1 << 30 }.largest_speed(700_000_000, 3, 1_073_741_823),
         700_000_000
     );
 }
@@ -90,17 +93,17 @@ fn cruises(rt: HostRuntime) {
 #[test]
 fn positions(rt: HostRuntime) {
     assert_eq!(rt;
-        advanced(65_536 * 1_073_741_823, 65_536),
+        next_target(65_536 * 1_073_741_823, 65_536),
         (-70_368_744_177_664, true)
     );
     assert_eq!(rt;
-        advanced(-70_368_744_177_664, -1),
+        next_target(-70_368_744_177_664, -1),
         (70_368_744_177_663, true)
     );
-    assert_eq!(rt; advanced(5, -7), (-2, false));
+    assert_eq!(rt; next_target(5, -7), (-2, false));
     assert_eq!(rt; microsteps(-1), -1);
     assert_eq!(rt; microsteps(131_071), 1);
     assert_eq!(rt; distance(-3, 65_536), -262_144);
-    assert_eq!(rt; counted(1_073_741_823, 1), -1_073_741_824);
-    assert_eq!(rt; counted(-1_073_741_824, -32_768), 1_073_709_056);
+    assert_eq!(rt; next_actual(1_073_741_823, 1), -1_073_741_824);
+    assert_eq!(rt; next_actual(-1_073_741_824, -32_768), 1_073_709_056);
 }

@@ -4,12 +4,12 @@ use Rattle.stage.specs.declared.Stage.{Ghosts}
 use Rattle.board.specs.declared.board.Board.{Board}
 use Rattle.board.specs.declared.refusal.Refusal.{Refusal}
 use Rattle.board.specs.Refusals.{refusal_number}
-use Rattle.replay.specs.declared.answer.Answer.{Answer}
-use Rattle.replay.specs.declared.answer.Answer.TheVariants.{Accepted, Word, Slip, NoSlip, Look}
+use Rattle.replay.specs.declared.reply.Reply.{Reply}
+use Rattle.replay.specs.declared.reply.Reply.TheVariants.{Accepted, Word, Slip, NoSlip, Look}
 use Rattle.replay.specs.Numbers.{two_bytes}
 use Rattle.replay.specs.Looks.{look_bytes}
 
-abbrev pub answer_bytes : {S : Type 0} (m : Ghosts S) → Result Answer Refusal → Board S m → List ℕ
+abbrev pub answer_bytes : {S : Type 0} (m : Ghosts S) → Result Reply Refusal → Board S m → List ℕ
 answer_bytes m (Ok Accepted) b = 0 ∷ []
 answer_bytes m (Ok (Word w)) b = 0x10 ∷ two_bytes w
 answer_bytes m (Ok (Slip gate)) b = 0x11 ∷ gate ∷ []

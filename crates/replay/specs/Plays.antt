@@ -8,14 +8,14 @@ use Rattle.board.specs.Acts.{Act, act_command, act_write, act_read, act_cycle, a
 use Rattle.board.specs.Runs.{Performs}
 use Rattle.desk.specs.Closes.{ClosesSlip, ClosesElsewhere}
 use Rattle.desk.specs.Runs.{RunsCycles}
-use Rattle.replay.specs.declared.answer.Answer.{Answer}
-use Rattle.replay.specs.declared.answer.Answer.TheVariants as reply
+use Rattle.replay.specs.declared.reply.Reply.{Reply}
+use Rattle.replay.specs.declared.reply.Reply.TheVariants as reply
 use Rattle.replay.specs.declared.entry.Closing.{Closing}
 use Rattle.replay.specs.declared.entry.Entry.{Entry}
 use Rattle.replay.specs.declared.entry.Entry.TheVariants.{Command, Write, Read, Cycle, Reset, Take, Close, CloseElsewhere, Look, Run}
 
 -- a board's answer to an act, as it is written; the words that a command fixes are read by entries of their own
-abbrev pub replay_answer : own.Answer → Result Answer Refusal
+abbrev pub replay_answer : own.Answer → Result Reply Refusal
 replay_answer own.answer_done = Ok reply.Accepted
 replay_answer (own.answer_refused e) = Err e
 replay_answer (own.answer_word w) = Ok (reply.Word w)
@@ -24,11 +24,11 @@ replay_answer (own.answer_slip k) = Ok (reply.Slip (k + 1))
 
 -- the entry's own board goes from a to c, the other one from b to d
 module _ {S : Type 0} (m : Ghosts S) where
-  abbrev pub PerformsAct : Act → Result Answer Refusal → Board S m → Board S m → Type 0
+  abbrev pub PerformsAct : Act → Result Reply Refusal → Board S m → Board S m → Type 0
   PerformsAct act r a c = (x : own.Answer) × (r ≡ replay_answer x) × Performs m act x a c
 
   -- the slip of that gate was there and is closed, or it was not there
-  abbrev pub PlaysClose : Closing → Result Answer Refusal → Board S m → Board S m → Type 0
+  abbrev pub PlaysClose : Closing → Result Reply Refusal → Board S m → Board S m → Type 0
   PlaysClose k (Ok reply.Accepted) a c = ClosesSlip m k.gate k.word true a c
   PlaysClose k (Ok (reply.Word w)) a c = ⊥
   PlaysClose k (Ok (reply.Slip g)) a c = ⊥
@@ -37,7 +37,7 @@ module _ {S : Type 0} (m : Ghosts S) where
   PlaysClose k (Err e) a c = ⊥
 
 module _ {S R : Type 0} (m : Ghosts S) (n : Ghosts R) where
-  abbrev pub PlaysCloseElsewhere : Closing → Result Answer Refusal → Board S m → Board S m → Board R n → Board R n → Type 0
+  abbrev pub PlaysCloseElsewhere : Closing → Result Reply Refusal → Board S m → Board S m → Board R n → Board R n → Type 0
   PlaysCloseElsewhere k (Ok reply.Accepted) a c b d = ClosesElsewhere m n k.gate k.word (Some (Ok tt)) a c b d
   PlaysCloseElsewhere k (Ok (reply.Word w)) a c b d = ⊥
   PlaysCloseElsewhere k (Ok (reply.Slip g)) a c b d = ⊥
@@ -45,7 +45,7 @@ module _ {S R : Type 0} (m : Ghosts S) (n : Ghosts R) where
   PlaysCloseElsewhere k (Ok reply.Look) a c b d = ⊥
   PlaysCloseElsewhere k (Err e) a c b d = ClosesElsewhere m n k.gate k.word (Some (Err e)) a c b d
 
-  abbrev pub PlaysEntry : Entry → Result Answer Refusal → Board S m → Board S m → Board R n → Board R n → Type 0
+  abbrev pub PlaysEntry : Entry → Result Reply Refusal → Board S m → Board S m → Board R n → Board R n → Type 0
   PlaysEntry (Command code) r a c b d = PerformsAct m (act_command code) r a c × (d ≡ b)
   PlaysEntry (Write w) r a c b d = PerformsAct m (act_write w) r a c × (d ≡ b)
   PlaysEntry Read r a c b d = PerformsAct m act_read r a c × (d ≡ b)

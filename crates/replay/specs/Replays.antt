@@ -3,10 +3,10 @@ use Rattle.std.specs.Prelude.{◌≡◌, ℕ, ◌+◌, ◌-◌, ◌<◌, List, [
 use Rattle.stage.specs.declared.Stage.{Ghosts}
 use Rattle.board.specs.declared.board.Board.{Board}
 use Rattle.board.specs.declared.refusal.Refusal.{Refusal}
-use Rattle.board.specs.Runs.{ReachedBy}
+use Rattle.board.specs.Runs.{IsReachedBy}
 use Rattle.desk.specs.declared.side.Side.{Side}
 use Rattle.desk.specs.declared.side.Side.TheVariants as side
-use Rattle.replay.specs.declared.answer.Answer.{Answer}
+use Rattle.replay.specs.declared.reply.Reply.{Reply}
 use Rattle.replay.specs.declared.entry.Entry.{Entry}
 use Rattle.replay.specs.declared.entry.Step.{Step}
 use Rattle.replay.specs.declared.fault.Fault.{Fault}
@@ -22,8 +22,8 @@ use Rattle.replay.specs.Written.{AppendsOrNone, Appends}
 module _ {S R : Type 0} (m : Ghosts S) (n : Ghosts R) where
   -- an entry is played at its board, and answered by the bytes
   abbrev pub PlaysStep : Side → Entry → Board S m → Board S m → Board R n → Board R n → List ℕ → Type 0
-  PlaysStep side.A e a c b d bytes = (x : Result Answer Refusal) × PlaysEntry m n e x a c b d × (bytes ≡ answer_bytes m x c)
-  PlaysStep side.B e a c b d bytes = (x : Result Answer Refusal) × PlaysEntry n m e x b d a c × (bytes ≡ answer_bytes n x d)
+  PlaysStep side.A e a c b d bytes = (x : Result Reply Refusal) × PlaysEntry m n e x a c b d × (bytes ≡ answer_bytes m x c)
+  PlaysStep side.B e a c b d bytes = (x : Result Reply Refusal) × PlaysEntry n m e x b d a c × (bytes ≡ answer_bytes n x d)
 
   -- the same, with the writer
   abbrev pub PlaysStepInto : Side → Entry → Board S m → Board S m → Board R n → Board R n → Out → Out → Result (Unit {0}) Fault → Type 0
@@ -63,8 +63,8 @@ module _ {S R : Type 0} (m : Ghosts S) (n : Ghosts R) where
   pub record IsAnsweredBy (xs : List ℕ) (room : ℕ) (bytes : List ℕ) (r : Result (Unit {0}) Fault) : Type 0 where
     pub board_a : Board S m
     pub board_b : Board R n
-    pub new_a : ReachedBy m [] board_a
-    pub new_b : ReachedBy n [] board_b
+    pub new_a : IsReachedBy m [] board_a
+    pub new_b : IsReachedBy n [] board_b
     pub last_a : Board S m
     pub last_b : Board R n
     pub steps : List Step

@@ -1,5 +1,5 @@
 ghost use Rattle.std.specs.Prelude.{[]};
-ghost use Rattle.board.specs.Runs.{ReachedBy};
+ghost use Rattle.board.specs.Runs.{IsReachedBy};
 ghost use Rattle.replay.specs.Replays.{PlaysStepInto, ReplaysInto};
 ghost use Rattle.desk.specs.Desks.{board_of};
 
@@ -46,20 +46,21 @@ fn turn<S: Stage + Drop, R: Stage + Drop>(
 
 impl<S: Stage + Drop, R: Stage + Drop> Boards<S, R> {
     /// Two new boards.
-    pub fn new(one: S, two: R) -> Boards<S, R>
-        ensures a { ReachedBy S.Stage [] (board_of result.a) }
-        ensures b { ReachedBy R.Stage [] (board_of result.b) }
+    pub fn new(a: S, b: R) -> Boards<S, R>
+        ensures a { IsReachedBy S.Stage [] (board_of result.a) }
+        ensures b { IsReachedBy R.Stage [] (board_of result.b) }
     {
         Boards {
-            a: Desk::new(one),
-            b: Desk::new(two),
+            a: Desk::new(a),
+            b: Desk::new(b),
         }
     }
 
     // Plays a step at its board and writes its answer.
     fn turn(&mut self, step: Step, out: &mut Out<'_>) -> Result<(), Fault>
-        ensures { PlaysStepInto S.Stage R.Stage step.side step.entry (board_of self.old.a)
-            (board_of self.new.a) (board_of self.old.b) (board_of self.new.b) out.old out.new result }
+        ensures { PlaysStepInto S.Stage R.Stage step.side step.entry
+            (board_of self.old.a) (board_of self.new.a)
+            (board_of self.old.b) (board_of self.new.b) out.old out.new result }
     {
         match step.side {
             Side::A => turn(&mut self.a, &mut self.b, step.entry, out),

@@ -11,26 +11,26 @@ use crate::out::Out;
 use stage::Stage;
 use stage::dac::Dac;
 use stage::pwm::Pwm;
-use stage::wiring::{Wire, Wiring};
+use stage::wiring::{GateWiring, Wiring};
 
-pub mod answer;
 pub mod boards;
 pub mod entry;
 pub mod fault;
 pub mod look;
 pub mod out;
 pub mod play;
+pub mod reply;
 
 // A PWM stage behind a wiring that exchanges the phases of gate 1 and negates phase A of gate 2.
-fn wired() -> Wiring<Pwm>
+fn wired_pwm() -> Wiring<Pwm>
     ensures one { result.one ≡ record { exchanged = true; negated = false } }
     ensures two { result.two ≡ record { exchanged = false; negated = true } }
 {
-    let one = Wire {
+    let one = GateWiring {
         exchanged: true,
         negated: false,
     };
-    let two = Wire {
+    let two = GateWiring {
         exchanged: false,
         negated: true,
     };
@@ -39,14 +39,14 @@ fn wired() -> Wiring<Pwm>
 
 // Plays a list against new boards over two stages, and answers how many bytes were written.
 fn replay<S: Stage + Drop, R: Stage + Drop>(
-    one: S,
-    two: R,
+    a: S,
+    b: R,
     list: &[u8],
     room: &mut [u8],
 ) -> (usize, Result<(), Fault>)
     ensures { FillsRoom S.Stage R.Stage list.now room.old room.new result.0 result.1 }
 {
-    let mut boards = Boards::new(one, two);
+    let mut boards = Boards::new(a, b);
     let mut out = Out {
         bytes: room,
         len: 0,
@@ -62,7 +62,7 @@ pub extern "C" fn two_gate_replay(list: &[u8], out: &mut [u8]) -> u32
     let Some((head, room)) = out.split_first_chunk_mut::<8>() else {
         return Fault::NoRoom as u32;
     };
-    let (count, played) = replay(Dac::new(), wired(), list, room);
+    let (count, played) = replay(Dac::new(), wired_pwm(), list, room);
     *head = (count as u64).to_be_bytes();
     match played {
         Ok(()) => 0,

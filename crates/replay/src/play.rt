@@ -1,8 +1,8 @@
 ghost use Rattle.replay.specs.Plays.{PlaysEntry};
 ghost use Rattle.desk.specs.Desks.{board_of};
 
-use crate::answer::Answer;
 use crate::entry::Entry;
+use crate::reply::Reply;
 use board::refusal::Refusal;
 use desk::desk::Desk;
 use desk::desk::elsewhere::close_elsewhere;
@@ -13,30 +13,30 @@ pub fn play<S: Stage + Drop, R: Stage + Drop>(
     own: &mut Desk<S>,
     other: &mut Desk<R>,
     entry: Entry,
-) -> Result<Answer, Refusal>
+) -> Result<Reply, Refusal>
     ensures { PlaysEntry S.Stage R.Stage entry result
         (board_of own.old) (board_of own.new) (board_of other.old) (board_of other.new) }
 {
     match entry {
         Entry::Command(code) => own.command(code)?,
         Entry::Write(word) => own.write(word)?,
-        Entry::Read => return Ok(Answer::Word(own.read()?)),
+        Entry::Read => return Ok(Reply::Word(own.read()?)),
         Entry::Cycle(one, two) => own.cycle(one, two),
         Entry::Reset => own.reset(),
-        Entry::Take => return Ok(Answer::Slip(own.take()?)),
+        Entry::Take => return Ok(Reply::Slip(own.take()?)),
         Entry::Close(closing) => {
             if !own.close(closing.gate, closing.word) {
-                return Ok(Answer::NoSlip);
+                return Ok(Reply::NoSlip);
             }
         }
         Entry::CloseElsewhere(closing) => {
             match close_elsewhere(own, other, closing.gate, closing.word) {
                 Some(result) => result?,
-                None => return Ok(Answer::NoSlip),
+                None => return Ok(Reply::NoSlip),
             }
         }
-        Entry::Look => return Ok(Answer::Look),
+        Entry::Look => return Ok(Reply::Look),
         Entry::Run(cycles) => own.run(u32::from(cycles)),
     }
-    Ok(Answer::Accepted)
+    Ok(Reply::Accepted)
 }

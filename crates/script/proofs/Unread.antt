@@ -15,7 +15,7 @@ use Rattle.script.specs.declared.line.Packet.TheVariants as packet
 use Rattle.script.specs.declared.line.Line.TheVariants as line
 use Rattle.script.specs.Mnemonics.{NamesCommand, mnemonic}
 use Rattle.script.specs.Numbers.{WritesNumber}
-use Rattle.script.specs.Lines.{Finds, WritesFitting, HasOneWord, IsCode, IsInputs, IsGate, IsWord, IsCycleWords, IsCloseWords, WritesLine, IsLong, IsPacket, ReadsPacket, value_expected, Expects, ReadsLine}
+use Rattle.script.specs.Lines.{Finds, WritesFitting, HasOneWord, IsCode, IsInputs, IsGate, WritesWord, IsCycleWords, IsCloseWords, WritesLine, WritesLong, IsPacket, ReadsPacket, value_expected, Expects, ReadsLine}
 use Rattle.script.proofs.MnemonicLemmas.{mnemonic_names_one}
 use Rattle.script.proofs.NumberLemmas.{unsigned_fitted}
 
@@ -45,7 +45,7 @@ pub no_command : (words : List (Bor (List ℕ))) → ((n : ℕ) → HasOneWord (
 no_command words none (line.Command n) w = none n w.1
 no_command words none l w = search rules
 
-pub no_write : (words : List (Bor (List ℕ))) → Finds (λ n. HasOneWord (λ t. IsWord t n) words) None
+pub no_write : (words : List (Bor (List ℕ))) → Finds (λ n. HasOneWord (λ t. WritesWord t n) words) None
     → Finds (WritesLine (codes "write") words) None
 no_write words none (line.Write n) w = none n w.1
 no_write words none l w = search rules
@@ -72,12 +72,12 @@ no_cycle_words words d (inr none) l i j (inr w) = none j (subst (λ (ws : List (
 
 -- a gate that is not named, or a word that is no number, closes nothing
 pub no_close_words : (words : List (Bor (List ℕ))) (d : Bor (List ℕ)) → Finds (IsGate (get_or words 0 d).now) None
-    ⊎ Finds (IsWord (get_or words 1 d).now) None → (n x : ℕ) → IsCloseWords words n x → ⊥
+    ⊎ Finds (WritesWord (get_or words 1 d).now) None → (n x : ℕ) → IsCloseWords words n x → ⊥
 no_close_words words d (inl none) n x v = none n (subst (λ (ws : List (Bor (List ℕ))). IsGate (get_or ws 0 d).now n) (sym v.2) v.3)
-no_close_words words d (inr none) n x v = none x (subst (λ (ws : List (Bor (List ℕ))). IsWord (get_or ws 1 d).now x) (sym v.2) v.4)
+no_close_words words d (inr none) n x v = none x (subst (λ (ws : List (Bor (List ℕ))). WritesWord (get_or ws 1 d).now x) (sym v.2) v.4)
 
 -- no packet of one word, or of two, without its value
-pub no_word_value : (c : Command) (words : List (Bor (List ℕ))) → takes c ≡ 1 → Finds (λ n. HasOneWord (λ t. IsWord t n) words) None
+pub no_word_value : (c : Command) (words : List (Bor (List ℕ))) → takes c ≡ 1 → Finds (λ n. HasOneWord (λ t. WritesWord t n) words) None
     → ReadsPacket c words (Err expected.WordValue)
 no_word_value c words k none = (sym (ap value_expected k), no_packet)
   where
@@ -86,7 +86,7 @@ no_word_value c words k none = (sym (ap value_expected k), no_packet)
     no_packet (packet.Word d n) w = none n w.2
     no_packet (packet.Long d n) w = absurd (omega (arith, k, w.1))
 
-pub no_long_value : (c : Command) (words : List (Bor (List ℕ))) → takes c ≡ 2 → Finds (λ n. HasOneWord (λ t. IsLong t n) words) None
+pub no_long_value : (c : Command) (words : List (Bor (List ℕ))) → takes c ≡ 2 → Finds (λ n. HasOneWord (λ t. WritesLong t n) words) None
     → ReadsPacket c words (Err expected.LongValue)
 no_long_value c words k none = (sym (ap value_expected k), no_packet)
   where

@@ -24,11 +24,11 @@ Finds P (Some x) = P x
 Finds {T = T} P None = (x : T) → P x → ⊥
 
 -- a text is a number of 16 bits, or of 32, signed or not
-abbrev pub IsWord : List ℕ → ℕ → Type 0
-IsWord text w = (z : ℤ) × WritesNumber text (Some z) × HasBits 32768 z (Some w)
+abbrev pub WritesWord : List ℕ → ℕ → Type 0
+WritesWord text w = (z : ℤ) × WritesNumber text (Some z) × HasBits 32768 z (Some w)
 
-abbrev pub IsLong : List ℕ → ℕ → Type 0
-IsLong text n = (z : ℤ) × WritesNumber text (Some z) × HasBits 2147483648 z (Some n)
+abbrev pub WritesLong : List ℕ → ℕ → Type 0
+WritesLong text n = (z : ℤ) × WritesNumber text (Some z) × HasBits 2147483648 z (Some n)
 
 -- a command's name, or its code
 abbrev pub IsCode : List ℕ → ℕ → Type 0
@@ -80,20 +80,20 @@ IsCycleWords words i j =
 
 -- the gate and the word behind `close`
 abbrev pub IsCloseWords : List (Bor (List ℕ)) → ℕ → ℕ → Type 0
-IsCloseWords words n x = (g : Bor (List ℕ)) × (w : Bor (List ℕ)) × (words ≡ g ∷ (w ∷ [])) × IsGate g.now n × IsWord w.now x
+IsCloseWords words n x = (g : Bor (List ℕ)) × (w : Bor (List ℕ)) × (words ≡ g ∷ (w ∷ [])) × IsGate g.now n × WritesWord w.now x
 
 -- a command's packet, with the value that the words write
 abbrev pub IsPacket : Command → List (Bor (List ℕ)) → Packet → Type 0
 IsPacket c words (packet.Plain d) = (d ≡ c) × (takes c ≡ 0) × (words ≡ [])
-IsPacket c words (packet.Word d w) = (d ≡ c) × (takes c ≡ 1) × HasOneWord (λ t. IsWord t w) words
-IsPacket c words (packet.Long d n) = (d ≡ c) × (takes c ≡ 2) × HasOneWord (λ t. IsLong t n) words
+IsPacket c words (packet.Word d w) = (d ≡ c) × (takes c ≡ 1) × HasOneWord (λ t. WritesWord t w) words
+IsPacket c words (packet.Long d n) = (d ≡ c) × (takes c ≡ 2) × HasOneWord (λ t. WritesLong t n) words
 
 -- a line that words write, the first of them and those behind it
 abbrev pub WritesLine : List ℕ → List (Bor (List ℕ)) → Line → Type 0
 WritesLine verb words line.Nothing = ⊥
 WritesLine verb words (line.Board side) = (verb ≡ codes "board") × HasOneWord (λ t. t ≡ side_name side) words
 WritesLine verb words (line.Command n) = (verb ≡ codes "command") × HasOneWord (λ t. IsCode t n) words
-WritesLine verb words (line.Write w) = (verb ≡ codes "write") × HasOneWord (λ t. IsWord t w) words
+WritesLine verb words (line.Write w) = (verb ≡ codes "write") × HasOneWord (λ t. WritesWord t w) words
 WritesLine verb words line.Read = (verb ≡ codes "read") × (words ≡ [])
 WritesLine verb words (line.Cycle i j) = (verb ≡ codes "cycle") × IsCycleWords words i j
 WritesLine verb words (line.Run n) = (verb ≡ codes "run") × HasOneWord (λ t. (n < 2 ^ 32) × WritesNumber t (Some (pos n))) words

@@ -7,7 +7,7 @@ use Rattle.gate.specs.declared.orders.Order.TheVariants.{Mode, Stop, Update, Aut
 use Rattle.gate.specs.declared.orders.WordOrder.TheVariants as word
 use Rattle.gate.specs.declared.orders.LongOrder.TheVariants as long
 use Rattle.gate.specs.declared.queries.Query.TheVariants as query
-use Rattle.board.specs.declared.command.Whose.TheVariants.{First, Second, Calling, Current}
+use Rattle.board.specs.declared.command.GateName.TheVariants.{First, Second, Calling, Current}
 use Rattle.board.specs.declared.command.Command.{Command}
 use Rattle.board.specs.declared.command.Command.TheVariants.{Status, Ask, Now, Word, Long, MultiUpdate}
 
@@ -34,7 +34,7 @@ mnemonic (Now (Motor motor.TwoPhase)) = codes "SET_PHASE_2"
 mnemonic (Now (Motor motor.ThreePhase)) = codes "SET_PHASE_3"
 mnemonic (Word word.BufferedPower) = codes "SET_BUF_MTR_CMD"
 mnemonic (Word word.Power) = codes "SET_MTR_CMD"
-mnemonic (Word word.Status) = codes "RST_STATUS"
+mnemonic (Word word.ClearEvents) = codes "RST_STATUS"
 mnemonic (Word word.Mask) = codes "SET_INTRPT_MASK"
 mnemonic MultiUpdate = codes "MULTI_UPDATE"
 mnemonic (Long long.Destination) = codes "SET_POS"
@@ -42,13 +42,13 @@ mnemonic (Long long.Velocity) = codes "SET_VEL"
 mnemonic (Long long.Acceleration) = codes "SET_ACC"
 mnemonic (Long long.Point) = codes "SET_BRK_PNT"
 mnemonic (Long long.Actual) = codes "SET_ACTL_POS"
-mnemonic (Ask query.Position) = codes "GET_POS"
+mnemonic (Ask query.Destination) = codes "GET_POS"
 mnemonic (Ask query.Velocity) = codes "GET_VEL"
 mnemonic (Ask query.Acceleration) = codes "GET_ACC"
 mnemonic (Ask query.TargetPosition) = codes "GET_TRGT_POS"
 mnemonic (Ask query.TargetVelocity) = codes "GET_TRGT_VEL"
 mnemonic (Ask query.ActualPosition) = codes "GET_ACTL_POS"
-mnemonic (Ask query.CycleTime) = codes "GET_TIME"
+mnemonic (Ask query.ClockTime) = codes "GET_TIME"
 
 -- the command that a word names, or none, where it names none
 abbrev pub NamesCommand : List ℕ → Option Command → Type 0

@@ -7,7 +7,7 @@ use Rattle.stage.specs.Pairs.{pair_of}
 use Rattle.stage.specs.Codes.{StandsFor}
 use Rattle.stage.specs.declared.codes.Codes.{Codes}
 use Rattle.gate.specs.declared.queries.Query.{Query}
-use Rattle.gate.specs.declared.queries.Query.TheVariants.{Position, Velocity, Acceleration, TargetPosition, TargetVelocity, ActualPosition, CycleTime}
+use Rattle.gate.specs.declared.queries.Query.TheVariants.{Destination, Velocity, Acceleration, TargetPosition, TargetVelocity, ActualPosition, ClockTime}
 use Rattle.board.specs.declared.board.Board.{Board}
 use Rattle.board.specs.declared.command.Command.{Command}
 use Rattle.board.specs.declared.command.Command.TheVariants as command
@@ -39,13 +39,13 @@ answer_of_reply (Err e) = answer_refused e
 
 -- a velocity register and the clock are unsigned, the other numbers signed
 abbrev pub query_value : Query → ℕ → ℤ
-query_value Position n = to_z w32 n
+query_value Destination n = to_z w32 n
 query_value Velocity n = pos n
 query_value Acceleration n = to_z w32 n
 query_value TargetPosition n = to_z w32 n
 query_value TargetVelocity n = to_z w32 n
 query_value ActualPosition n = to_z w32 n
-query_value CycleTime n = pos n
+query_value ClockTime n = pos n
 
 -- the line asks nothing of a board
 abbrev pub AsksNothing : Result (Option Reply) Refusal → Type 0
@@ -79,7 +79,7 @@ module _ {S : Type 0} (m : Ghosts S) where
 
   -- the packet of a command that takes no word, by the code n of the command
   abbrev pub PlaysPlain : Command → ℕ → Result Reply Refusal → Board S m → Board S m → Type 0
-  PlaysPlain (command.Status whose) n r b d = GivesWords 1 (λ words. pos (slice_index words 0)) n r b d
+  PlaysPlain (command.Status w) n r b d = GivesWords 1 (λ words. pos (slice_index words 0)) n r b d
   PlaysPlain (command.Ask q) n r b d = GivesWords 2 (λ words. query_value q (join (slice_index words 0) (slice_index words 1))) n r b d
   PlaysPlain (command.Now o) n r b d = Performs m (act_command n) (answer_of_reply r) b d
   PlaysPlain (command.Word o) n r b d = Performs m (act_command n) (answer_of_reply r) b d

@@ -1,8 +1,8 @@
 ghost use Rattle.std.specs.Prelude.{◌≡◌, []};
-ghost use Rattle.board.specs.Runs.{ReachedBy};
+ghost use Rattle.board.specs.Runs.{IsReachedBy};
 ghost use Rattle.desk.specs.Desks.{board_of};
 ghost use Rattle.desk.specs.Closes.{ClosesAll};
-ghost use Rattle.desk.specs.declared.side.Side.TheVariants.{A as First};
+ghost use Rattle.desk.specs.declared.side.Side.TheVariants.{A as SideA};
 ghost use Rattle.script.specs.Sides.{PlaysAt, PlaysOnBoards};
 
 use crate::line::Line;
@@ -25,9 +25,9 @@ pub struct Boards<S: Stage + Drop, R: Stage + Drop> {
 impl<S: Stage + Drop, R: Stage + Drop> Boards<S, R> {
     /// Two new boards; lines go to the first.
     pub fn new(a: S, b: R) -> Boards<S, R>
-        ensures a { ReachedBy S.Stage [] (board_of result.a) }
-        ensures b { ReachedBy R.Stage [] (board_of result.b) }
-        ensures current { result.current ≡ First }
+        ensures a { IsReachedBy S.Stage [] (board_of result.a) }
+        ensures b { IsReachedBy R.Stage [] (board_of result.b) }
+        ensures current { result.current ≡ SideA }
     {
         Boards {
             a: Desk::new(a),

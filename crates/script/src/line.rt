@@ -1,10 +1,10 @@
 ghost use Rattle.std.specs.Prelude.{◌≡◌, ◌<◌, [], ◌∷◌, codes};
 ghost use Rattle.std.specs.Option.{SomeIff};
-ghost use Rattle.script.specs.Lines.{Finds, WritesFitting, HoldsLetter, IsCode, IsGate, IsInputs, IsLong, IsWord, HasOneWord, ReadsPacket, ReadsLine, WritesLine, side_name};
+ghost use Rattle.script.specs.Lines.{Finds, WritesFitting, HoldsLetter, IsCode, IsGate, IsInputs, WritesLong, WritesWord, HasOneWord, ReadsPacket, ReadsLine, WritesLine, side_name};
 
 use crate::fault::Expected;
-use crate::mnemonic::named;
-use crate::number::{LONG, WORD, bits_of, number};
+use crate::mnemonic::command_named;
+use crate::number::{LONG_HALF, WORD_HALF, bits_of, number};
 use board::command::Command;
 use desk::side::Side;
 use gate::inputs::Inputs;
@@ -48,7 +48,7 @@ fn side(text: &str) -> Option<Side>
 fn code(text: &str) -> Option<u8>
     ensures { Finds (IsCode text.now) result }
 {
-    match named(text) {
+    match command_named(text) {
         Some(command) => Some(u8::from(command)),
         None => fitting(text),
     }
@@ -56,15 +56,15 @@ fn code(text: &str) -> Option<u8>
 
 // The bits of a number of one word, and below of two.
 fn word(text: &str) -> Option<u16>
-    ensures { Finds (IsWord text.now) result }
+    ensures { Finds (WritesWord text.now) result }
 {
-    u16::try_from(bits_of::<WORD>(number(text)?)?).ok()
+    u16::try_from(bits_of::<WORD_HALF>(number(text)?)?).ok()
 }
 
 fn long(text: &str) -> Option<u32>
-    ensures { Finds (IsLong text.now) result }
+    ensures { Finds (WritesLong text.now) result }
 {
-    u32::try_from(bits_of::<LONG>(number(text)?)?).ok()
+    u32::try_from(bits_of::<LONG_HALF>(number(text)?)?).ok()
 }
 
 // The number that a text writes, where it fits its type.
@@ -126,13 +126,13 @@ fn only<'a>(words: &[&'a str]) -> Option<&'a str>
 
 // The number of one word that is the only one of the words, and of two words.
 fn only_word(words: &[&str]) -> Option<u16>
-    ensures { Finds (λ n. HasOneWord (λ text. IsWord text n) words.now) result }
+    ensures { Finds (λ n. HasOneWord (λ text. WritesWord text n) words.now) result }
 {
     word(only(words)?)
 }
 
 fn only_long(words: &[&str]) -> Option<u32>
-    ensures { Finds (λ n. HasOneWord (λ text. IsLong text n) words.now) result }
+    ensures { Finds (λ n. HasOneWord (λ text. WritesLong text n) words.now) result }
 {
     long(only(words)?)
 }
@@ -235,7 +235,7 @@ impl<'a> TryFrom<&'a [&'a str]> for Line {
             "pairs" => alone(rest, Line::Pairs).ok_or(Expected::Alone),
             "wires" => alone(rest, Line::Wires).ok_or(Expected::Alone),
             name => {
-                let command = named(name).ok_or(Expected::Line)?;
+                let command = command_named(name).ok_or(Expected::Line)?;
                 Ok(Line::Packet(Packet::read(command, rest)?))
             }
         }

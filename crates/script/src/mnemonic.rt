@@ -1,6 +1,6 @@
 ghost use Rattle.script.specs.Mnemonics.{NamesCommand};
 
-use board::command::{Command, Whose};
+use board::command::{Command, GateName};
 use gate::gate::BreakMode;
 use gate::orders::{LongOrder, Order, WordOrder};
 use gate::profile::ProfileMode;
@@ -8,14 +8,14 @@ use gate::queries::Query;
 use wave::phases::MotorKind;
 
 /// The command that a word names, or none. Upper and lower case differ.
-pub fn named(word: &str) -> Option<Command>
+pub fn command_named(word: &str) -> Option<Command>
     ensures { NamesCommand word.now result }
 {
     Some(match word {
-        "SET_1" => Command::Status(Whose::First),
-        "SET_2" => Command::Status(Whose::Second),
-        "SET_I" => Command::Status(Whose::Calling),
-        "GET_STATUS" => Command::Status(Whose::Current),
+        "SET_1" => Command::Status(GateName::First),
+        "SET_2" => Command::Status(GateName::Second),
+        "SET_I" => Command::Status(GateName::Calling),
+        "GET_STATUS" => Command::Status(GateName::Current),
         "SET_PRFL_TRAP" => Command::Now(Order::Mode(ProfileMode::Trapezoidal)),
         "SET_PRFL_VEL" => Command::Now(Order::Mode(ProfileMode::Velocity)),
         "STOP" => Command::Now(Order::Stop),
@@ -34,7 +34,7 @@ pub fn named(word: &str) -> Option<Command>
         "SET_PHASE_3" => Command::Now(Order::Motor(MotorKind::ThreePhase)),
         "SET_BUF_MTR_CMD" => Command::Word(WordOrder::BufferedPower),
         "SET_MTR_CMD" => Command::Word(WordOrder::Power),
-        "RST_STATUS" => Command::Word(WordOrder::Status),
+        "RST_STATUS" => Command::Word(WordOrder::ClearEvents),
         "SET_INTRPT_MASK" => Command::Word(WordOrder::Mask),
         "MULTI_UPDATE" => Command::MultiUpdate,
         "SET_POS" => Command::Long(LongOrder::Destination),
@@ -42,13 +42,13 @@ pub fn named(word: &str) -> Option<Command>
         "SET_ACC" => Command::Long(LongOrder::Acceleration),
         "SET_BRK_PNT" => Command::Long(LongOrder::Point),
         "SET_ACTL_POS" => Command::Long(LongOrder::Actual),
-        "GET_POS" => Command::Ask(Query::Position),
+        "GET_POS" => Command::Ask(Query::Destination),
         "GET_VEL" => Command::Ask(Query::Velocity),
         "GET_ACC" => Command::Ask(Query::Acceleration),
         "GET_TRGT_POS" => Command::Ask(Query::TargetPosition),
         "GET_TRGT_VEL" => Command::Ask(Query::TargetVelocity),
         "GET_ACTL_POS" => Command::Ask(Query::ActualPosition),
-        "GET_TIME" => Command::Ask(Query::CycleTime),
+        "GET_TIME" => Command::Ask(Query::ClockTime),
         _ => return None,
     })
 }

@@ -26,9 +26,9 @@ pub fn number(word: &str) -> Option<i64>
 }
 
 /// Half of the values of one word, and of two.
-pub const WORD: u32 = 0x8000;
+pub const WORD_HALF: u32 = 0x8000;
 
-pub const LONG: u32 = 0x8000_0000;
+pub const LONG_HALF: u32 = 0x8000_0000;
 
 /// The bits of a signed or an unsigned number of a width with 2 × HALF values.
 pub fn bits_of<const HALF: u32>(number: i64) -> Option<u64>

@@ -18,8 +18,8 @@ fn signed(query: Query, bits: u32) -> i64
     ensures { result ≡ query_value query bits }
 {
     match query {
-        Query::Velocity | Query::CycleTime => i64::from(bits),
-        Query::Position
+        Query::Velocity | Query::ClockTime => i64::from(bits),
+        Query::Destination
         | Query::Acceleration
         | Query::TargetPosition
         | Query::TargetVelocity

@@ -7,7 +7,7 @@ mod tests {
     use desk::desk::Desk;
     use script::fault::Expected;
     use script::line::Line;
-    use script::number::{LONG, WORD, bits_of, number};
+    use script::number::{LONG_HALF, WORD_HALF, bits_of, number};
     use script::play::play;
     use script::reply::{Answer, Reply};
     use stage::codes::{Codes, Wires};
@@ -80,10 +80,10 @@ mod tests {
         assert_eq!(rt; number("-0x1f"), None);
         assert_eq!(rt; number("0x+1"), None);
         assert_eq!(rt; number("+7"), Some(7));
-        assert_eq!(rt; bits_of::<WORD>(-1), Some(65_535));
-        assert_eq!(rt; bits_of::<WORD>(-32_769), None);
-        assert_eq!(rt; bits_of::<LONG>(-2_147_483_648), Some(2_147_483_648));
-        assert_eq!(rt; bits_of::<LONG>(4_294_967_296), None);
+        assert_eq!(rt; bits_of::<WORD_HALF>(-1), Some(65_535));
+        assert_eq!(rt; bits_of::<WORD_HALF>(-32_769), None);
+        assert_eq!(rt; bits_of::<LONG_HALF>(-2_147_483_648), Some(2_147_483_648));
+        assert_eq!(rt; bits_of::<LONG_HALF>(4_294_967_296), None);
     }
 
     #[test]

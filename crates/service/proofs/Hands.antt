@@ -6,7 +6,7 @@ use Rattle.board.specs.declared.refusal.Refusal.{Refusal}
 use Rattle.board.specs.declared.refusal.Refusal.TheVariants.{NoCall}
 use Rattle.board.specs.declared.slip.Slip.{Slip}
 use Rattle.board.specs.Own.{Answer, answer_done, answer_refused, answer_slip, entry_take}
-use Rattle.board.specs.Acts.{State, act_take, act_close, answer, entry_transition, lendable, transition_answer, state_of}
+use Rattle.board.specs.Acts.{State, act_take, act_close, answer, entry_transition, waiting_gate, transition_answer, state_of}
 use Rattle.board.specs.Runs.{Performs, BoardUnchanged}
 use Rattle.board.specs.Sequences.{PerformsAll}
 use Rattle.board.proofs.Slips.{taken_gate, taken_none}
@@ -15,7 +15,7 @@ use Rattle.service.specs.Turns.{Picks, Puts, service_acts}
 
 -- a take is refused for want of a call alone
 no_call : (s : State) (e : Refusal) → answer_refused e ≡ answer s act_take → e ≡ NoCall
-no_call s e h = go (lendable s) h
+no_call s e h = go (waiting_gate s) h
   where
     go : (o : Option ℕ) → answer_refused e ≡ transition_answer s (entry_transition o entry_take) → e ≡ NoCall
     go (Some j) h = cc
@@ -23,7 +23,7 @@ no_call s e h = go (lendable s) h
 
 module _ {S : Type 0} (m : Ghosts S) (b c : Board S m) where
   -- a take that is refused found no gate that waits, and changed nothing
-  pub missed : (e : Refusal) → Performs m act_take (answer_refused e) b c → (lendable (state_of b.table) ≡ None) × BoardUnchanged m b c
+  pub missed : (e : Refusal) → Performs m act_take (answer_refused e) b c → (waiting_gate (state_of b.table) ≡ None) × BoardUnchanged m b c
       × PerformsAll m (act_take ∷ []) b c
   missed e d =
       let call = no_call (state_of b.table) e d.answers in
@@ -31,7 +31,7 @@ module _ {S : Type 0} (m : Ghosts S) (b c : Board S m) where
 
   -- a slip that is taken and closed is that of the lowest-numbered gate that waits
   pub had_turn : (d : Board S m) (k w : ℕ) (x : Answer) → Performs m act_take (answer_slip k) b c → Performs m (act_close k w) x c d
-      → (Some k ≡ lendable (state_of b.table)) × PerformsAll m (service_acts k w []) b d
+      → (Some k ≡ waiting_gate (state_of b.table)) × PerformsAll m (service_acts k w []) b d
   had_turn d k w x p q = (
     taken_gate (state_of b.table) k p.answers,
     performed_then m (act_close k w) x (act_take ∷ []) b c d (performed_one m act_take (answer_slip k) b c p) q,
@@ -39,12 +39,12 @@ module _ {S : Type 0} (m : Ghosts S) (b c : Board S m) where
 
   -- the same of a slip that goes through a hand
   pub turned : (d : Board S m) (w : ℕ) (o : Option Slip) → true ≡ is_some o → Picks m o b c → Puts m w o c d
-      → (k : ℕ) × (Some k ≡ lendable (state_of b.table)) × PerformsAll m (service_acts k w []) b d
-  turned d w (Some s) e p q = let had = had_turn d s.gate w answer_done p q in (s.gate, had.0, had.1)
+      → (k : ℕ) × (Some k ≡ waiting_gate (state_of b.table)) × PerformsAll m (service_acts k w []) b d
+  turned d w (Some s) e p q = let had = had_turn d s.axis w answer_done p q in (s.axis, had.0, had.1)
   turned d w None e p q = absurd q
 
   -- an empty hand after a take
-  pub idle : (o : Option Slip) → false ≡ is_some o → Picks m o b c → (lendable (state_of b.table) ≡ None) × BoardUnchanged m b c
+  pub idle : (o : Option Slip) → false ≡ is_some o → Picks m o b c → (waiting_gate (state_of b.table) ≡ None) × BoardUnchanged m b c
       × PerformsAll m (act_take ∷ []) b c
   idle None e p = missed p.0 p.1
   idle (Some s) e p = cc

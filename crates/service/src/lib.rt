@@ -7,7 +7,7 @@ pub mod turns;
 #[cfg(test)]
 mod tests {
     use crate::round::serve;
-    use crate::turns::{Served, serve_in_turn};
+    use crate::turns::{ServedCalls, serve_in_turn};
     use board::board::Board;
     use board::board::compare::compare;
     use board::refusal::Refusal;
@@ -37,7 +37,7 @@ mod tests {
         board.write(low)
     }
 
-    // The left gate moves to 1 at velocity 40,000 and acceleration 16,384, with an interrupt on motion complete.
+    // Gate 1 moves to 1 at velocity 40,000 and acceleration 16,384, with an interrupt on motion complete.
     fn start<S: Stage + Drop>(board: &mut Board<S>) -> Result<(), Refusal> {
         long(board, 0x10, 0, 1)?;
         long(board, 0x11, 0, 40_000)?;
@@ -104,8 +104,11 @@ mod tests {
             assert_eq!(rt; word(&mut board, 0x2f, 0x80), Ok(()));
             assert_eq!(rt; word(&mut board, 0x62, 0x8000), Err(Refusal::OutOfRange));
         }
-        assert_eq!(rt; serve_in_turn(&mut board, 0xff7f, 0xffff), Served::Both);
-        assert_eq!(rt; serve_in_turn(&mut board, 0xff7f, 0), Served::One);
-        assert_eq!(rt; serve_in_turn(&mut board, 0, 0), Served::Neither);
+        assert_eq!(rt;
+            serve_in_turn(&mut board, 0xff7f, 0xffff),
+            ServedCalls::Both
+        );
+        assert_eq!(rt; serve_in_turn(&mut board, 0xff7f, 0), ServedCalls::One);
+        assert_eq!(rt; serve_in_turn(&mut board, 0, 0), ServedCalls::Neither);
     }
 }

@@ -1,5 +1,5 @@
 ghost use Rattle.std.specs.Prelude.{◌≡◌, true, false, is_some, None};
-ghost use Rattle.board.specs.Acts.{lendable};
+ghost use Rattle.board.specs.Acts.{waiting_gate};
 ghost use Rattle.service.specs.Turns.{IsInHand, ServesInTurn, Picks, Puts};
 ghost use Rattle.board.specs.Runs.{board_state, stage_of};
 
@@ -9,7 +9,7 @@ use stage::Stage;
 
 /// How many calls were served.
 #[derive(Clone, Copy, PartialEq, Debug)]
-pub enum Served {
+pub enum ServedCalls {
     Neither,
     One,
     Both,
@@ -22,7 +22,7 @@ fn pick<S: Stage + Drop>(board: &mut Board<S>, hand: &mut Option<Slip>) -> bool
     ensures held { result ≡ is_some hand.new }
     ensures out { IsInHand board.new hand.new }
     ensures picked { Picks S.Stage hand.new board.old board.new }
-    ensures none { result ≡ false → lendable (board_state board.old) ≡ None }
+    ensures none { result ≡ false → waiting_gate (board_state board.old) ≡ None }
 {
     let Ok(slip) = board.take() else {
         return false;
@@ -43,22 +43,22 @@ fn put<S: Stage + Drop>(board: &mut Board<S>, hand: &mut Option<Slip>, word: u16
 }
 
 /// Serves two calls, one slip after the other, each with a word of its own.
-pub fn serve_in_turn<S: Stage + Drop>(board: &mut Board<S>, first: u16, second: u16) -> Served
+pub fn serve_in_turn<S: Stage + Drop>(board: &mut Board<S>, first: u16, second: u16) -> ServedCalls
     ensures stage { stage_of board.new ≡ stage_of board.old }
     ensures shows { S.Stage.pairs (stage_of board.new) ≡ S.Stage.pairs (stage_of board.old) }
-    ensures neither { result ≡ Served.Neither → lendable (board_state board.old) ≡ None }
+    ensures neither { result ≡ ServedCalls.Neither → waiting_gate (board_state board.old) ≡ None }
     ensures served { ServesInTurn S.Stage first second result board.old board.new }
 {
     let mut hand = None;
     let one = pick(board, &mut hand);
     if !one {
-        return Served::Neither;
+        return ServedCalls::Neither;
     }
     put(board, &mut hand, first);
     let two = pick(board, &mut hand);
     if !two {
-        return Served::One;
+        return ServedCalls::One;
     }
     put(board, &mut hand, second);
-    Served::Both
+    ServedCalls::Both
 }

@@ -48,7 +48,7 @@ mod tests {
     use crate::pulse::Pulse;
     use crate::pwm::Pwm;
     use crate::quantize::quantize;
-    use crate::wiring::{Wire, Wiring};
+    use crate::wiring::{GateWiring, Wiring};
 
     #[test]
     fn cuts_toward_zero(rt: HostRuntime) {
@@ -93,12 +93,12 @@ mod tests {
 
     #[test]
     fn piled_wirings(rt: HostRuntime) {
-        let crossed = Wire {
+        let crossed = GateWiring {
             exchanged: true,
             negated: true,
         };
         let mut pile = Wiring::new(
-            Wiring::new(Dac::new(), crossed, Wire::default()),
+            Wiring::new(Dac::new(), crossed, GateWiring::default()),
             crossed,
             crossed,
         );

@@ -1,14 +1,14 @@
 ghost use Rattle.std.specs.Prelude.{◌≡◌, ℕ, neg_ℤ};
 ghost use Rattle.stage.specs.Quantize.{quantize};
 ghost use Rattle.stage.specs.Pairs.{IsBounded, quantized_pair, pairs_after_show};
-ghost use Rattle.stage.specs.Wiring.{unwired, unwired_pairs};
+ghost use Rattle.stage.specs.Wiring.{unwired_pair, unwired_pairs};
 ghost use Rattle.std.proofs.Common.{rules};
 
 use crate::Stage;
 
 /// How one gate's phases are wired to the stage below.
 #[derive(Clone, Copy, PartialEq, Eq, Debug, Default)]
-pub struct Wire {
+pub struct GateWiring {
     // the two phases change places
     pub exchanged: bool,
     // the board's phase A runs the other way round
@@ -19,19 +19,19 @@ pub struct Wire {
 #[derive(Drop)]
 pub struct Wiring<S: Stage + Drop> {
     below: S,
-    one: Wire,
-    two: Wire,
+    one: GateWiring,
+    two: GateWiring,
 }
 
 impl<S: Stage + Drop> Wiring<S> {
-    pub fn new(below: S, one: Wire, two: Wire) -> Wiring<S>
+    pub fn new(below: S, one: GateWiring, two: GateWiring) -> Wiring<S>
         ensures { result ≡ record { below = below; one = one; two = two } }
     {
         Wiring { below, one, two }
     }
 
     // How a gate is wired; what a number other than 1 or 2 answers is of no account.
-    fn wire(&self, gate: u8) -> Wire
+    fn wire(&self, gate: u8) -> GateWiring
         ensures first { gate ≡ 1 → result ≡ self.now.one }
         ensures second { gate ≡ 2 → result ≡ self.now.two }
     {
@@ -53,16 +53,17 @@ fn opposite(x: i32) -> i32
 }
 
 // What is to be shown below, so that the board's numbers are seen above.
-fn wired(wire: Wire, a: i32, b: i32) -> (i32, i32)
-    ensures { (step : ℕ) → unwired wire (quantized_pair step result) ≡ quantized_pair step (a, b) }
+fn wired_pair(wire: GateWiring, a: i32, b: i32) -> (i32, i32)
+    ensures { (step : ℕ) →
+        unwired_pair wire (quantized_pair step result) ≡ quantized_pair step (a, b) }
 {
     let a = if wire.negated { opposite(a) } else { a };
     if wire.exchanged { (b, a) } else { (a, b) }
 }
 
-fn unwired(wire: Wire, pair: (i32, i32)) -> (i32, i32)
+fn unwired_pair(wire: GateWiring, pair: (i32, i32)) -> (i32, i32)
     requires { IsBounded pair }
-    ensures is { result ≡ unwired wire pair }
+    ensures is { result ≡ unwired_pair wire pair }
     ensures bounded { IsBounded result }
 {
     let (a, b) = if wire.exchanged {
@@ -84,14 +85,15 @@ impl<S: Stage + Drop> Stage for Wiring<S> {
 
     fn show(&mut self, gate: u8, a: i32, b: i32)
         ensures pairs { unwired_pairs self.new.one self.new.two (S.Stage.pairs self.new.below) ≡
-            pairs_after_show S.Stage.STEP (unwired_pairs self.old.one self.old.two (S.Stage.pairs self.old.below)) gate a b }
+            pairs_after_show S.Stage.STEP
+            (unwired_pairs self.old.one self.old.two (S.Stage.pairs self.old.below)) gate a b }
         ensures wires { (self.new.one ≡ self.old.one) × (self.new.two ≡ self.old.two) }
     {
-        let (a, b) = wired(self.wire(gate), a, b);
+        let (a, b) = wired_pair(self.wire(gate), a, b);
         self.below.show(gate, a, b);
     }
 
     fn pair(&self, gate: u8) -> (i32, i32) {
-        unwired(self.wire(gate), self.below.pair(gate))
+        unwired_pair(self.wire(gate), self.below.pair(gate))
     }
 }

@@ -4,8 +4,8 @@ use Rattle.std.specs.Int.{w32}
 use Rattle.std.specs.Str.Parse.{IsNumeral, digits_value, without_leading_plus, without_leading_sign, signed_digits_value}
 use Rattle.gate.specs.declared.gate.Gate.{Gate}
 use Rattle.gate.specs.declared.load.Load.TheVariants as load
-use Rattle.gate.specs.Gates.{fresh, latch}
-use Rattle.gate.specs.Loads.{load_fits, with_load}
+use Rattle.gate.specs.Gates.{fresh_gate, latch}
+use Rattle.gate.specs.Loads.{is_load_in_range, with_load}
 use Rattle.travel.specs.declared.plan.Plan.{Plan}
 use Rattle.travel.specs.declared.plan.Fault.{Fault}
 use Rattle.travel.specs.declared.plan.Fault.TheVariants.{Destination, Velocity, Acceleration, Power, Count}
@@ -46,16 +46,16 @@ ReadsPlan words r = r ≡ Err Count
 
 -- the numbers that a gate takes
 abbrev pub has_good_destination : Plan → Bool
-has_good_destination p = load_fits (load.Destination p.destination)
+has_good_destination p = is_load_in_range (load.Destination p.destination)
 
 abbrev pub has_good_velocity : Plan → Bool
-has_good_velocity p = load_fits (load.Velocity p.velocity)
+has_good_velocity p = is_load_in_range (load.Velocity p.velocity)
 
 abbrev pub has_good_acceleration : Plan → Bool
-has_good_acceleration p = load_fits (load.Acceleration p.acceleration)
+has_good_acceleration p = is_load_in_range (load.Acceleration p.acceleration)
 
 abbrev pub has_good_power : Plan → Bool
-has_good_power p = load_fits (load.Power p.power)
+has_good_power p = is_load_in_range (load.Power p.power)
 
 -- a plan is refused for the first of its numbers that is out of range
 abbrev pub HasFault : Plan → Fault → Type 0
@@ -78,4 +78,4 @@ pub record TakesPlan (p : Plan) (g : Gate) : Type 0 where
   pub velocity : has_good_velocity p ≡ true
   pub acceleration : has_good_acceleration p ≡ true
   pub power : has_good_power p ≡ true
-  pub is : g ≡ latch (with_plan p (fresh false))
+  pub is : g ≡ latch (with_plan p (fresh_gate false))

@@ -3,7 +3,7 @@ use Rattle.std.specs.Prelude.{◌≡◌, ℕ, cond, not, List, codes}
 use Rattle.motion.specs.Course.{microsteps}
 use Rattle.gate.specs.declared.gate.Gate.{Gate}
 use Rattle.gate.specs.Clock.{time}
-use Rattle.gate.specs.Cycles.{at_rest, gate_phases}
+use Rattle.gate.specs.Cycles.{is_at_rest, gate_phases}
 use Rattle.travel.specs.declared.row.Row.{Row}
 
 -- the row shows the gate as it stands
@@ -13,8 +13,8 @@ pub record ShowsGate (g : Gate) (r : Row) : Type 0 where
   pub target : r.target ≡ microsteps g.motion.target
   pub phases : r.phases ≡ gate_phases g
   pub complete : r.complete ≡ g.events.complete
-  pub moving : r.moving ≡ not (at_rest g)
+  pub moving : r.moving ≡ not (is_at_rest g)
 
 -- the word for it in the last column
-abbrev pub state_word : Row → List ℕ
-state_word r = cond r.moving (codes "moving") (cond r.complete (codes "motion complete") (codes "at rest"))
+abbrev pub state_text : Row → List ℕ
+state_text r = cond r.moving (codes "moving") (cond r.complete (codes "motion complete") (codes "at rest"))

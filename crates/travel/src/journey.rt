@@ -45,7 +45,7 @@ impl Journey {
 
     /// Runs one more cycle, and answers its line.
     pub fn step(&mut self) -> Row
-        ensures goes { self.new.gate ≡ cycle still_inputs self.old.gate }
+        ensures is { self.new.gate ≡ cycle still_inputs self.old.gate }
         ensures paced { RespectsProfile self.old.gate self.new.gate }
         ensures shown { ShowsGate self.new.gate result }
     {
@@ -56,7 +56,7 @@ impl Journey {
             target: microsteps(self.gate.motion.target),
             phases,
             complete: self.gate.events.complete,
-            moving: !self.gate.at_rest(),
+            moving: !self.gate.is_at_rest(),
         }
     }
 

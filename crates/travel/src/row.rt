@@ -1,5 +1,5 @@
 ghost use Rattle.std.specs.Prelude.{◌≡◌};
-ghost use Rattle.travel.specs.Rows.{state_word};
+ghost use Rattle.travel.specs.Rows.{state_text};
 
 use std::fmt;
 
@@ -21,7 +21,7 @@ pub const HEADING: &str = "cycle |    velocity       target | phase A  phase B |
 
 impl Row {
     fn state(&self) -> &'static str
-        ensures { result.now ≡ state_word self.now }
+        ensures { result.now ≡ state_text self.now }
     {
         if self.moving {
             "moving"

@@ -5,17 +5,17 @@ use Rattle.std.specs.List.{range_with_len}
 use Rattle.std.proofs.lemmas.Int.{ints}
 use Rattle.std.proofs.lemmas.List.FromFn.{get_or-map-range_with_len}
 use Rattle.wave.specs.Phases.{scaled_by_power}
-use Rattle.wave.specs.Wave.{with_half_sign, half}
+use Rattle.wave.specs.Wave.{with_half_sign, half_wave}
 use Rattle.wave.proofs.Every.{at}
 
 -- the half wave as a list
-pub halves : (place : ℕ) → place < 128 → slice_index_or (map half (range_with_len 0 128)) place 0 ≡ half place
-halves place h = get_or-map-range_with_len half 0 128 place place 0 h (omega arith)
+pub halves : (place : ℕ) → place < 128 → slice_index_or (map half_wave (range_with_len 0 128)) place 0 ≡ half_wave place
+halves place h = get_or-map-range_with_len half_wave 0 128 place place 0 h (omega arith)
 
 -- no place of the half wave is above 32,767
-pub half_bound : (place : ℕ) → place < 128 → half place ≤ 32767
+pub half_bound : (place : ℕ) → place < 128 → half_wave place ≤ 32767
 half_bound place h =
-    leb→le (half place) 32767 (at (λ k. leb (half k) 32767) 128 tt place h)
+    leb→le (half_wave place) 32767 (at (λ k. leb (half_wave k) 32767) 128 tt place h)
 
 -- a share of the power is at most the power
 pub share : (size power : ℕ) → size ≤ 32767 → size * power / 32767 ≤ power

@@ -2,7 +2,7 @@ ghost use Rattle.std.specs.Prelude.{◌≡◌, ◌*◌, ◌/◌, ◌≤◌, unsi
 ghost use Rattle.wave.specs.Wave.{wave};
 ghost use Rattle.wave.specs.Phases.{angle, lead, scaled_by_power, phases};
 
-use crate::quarter::half;
+use crate::quarter::half_wave;
 use crate::wave::with_half_sign;
 
 // The greatest value of the wave.
@@ -53,7 +53,7 @@ fn phase(power: u16, place: u32) -> i32
     ensures is { result ≡ scaled_by_power power (wave place) }
     ensures bound { unsigned_abs result ≤ power }
 {
-    with_half_sign(place, share(power, half(place % 128)))
+    with_half_sign(place, share(power, half_wave(place % 128)))
 }
 
 /// What the phases A and B of a motor are driven with at a position.

@@ -1,6 +1,6 @@
 ghost use Rattle.std.specs.Prelude.{◌≡◌, ◌<◌};
 ghost use Rattle.wave.specs.Quarter.{quarter, IsSine};
-ghost use Rattle.wave.specs.Wave.{half};
+ghost use Rattle.wave.specs.Wave.{half_wave};
 
 // Half a wave: up the quarter and down again. The half is kept, since to fold a place into the quarter takes longer than to look it up.
 const HALF: [u16; 128] = [
@@ -25,9 +25,9 @@ pub fn quarter() -> [u16; 65]
 }
 
 // Half a wave, of 128 places.
-pub(crate) fn half(place: u32) -> u16
+pub(crate) fn half_wave(place: u32) -> u16
     requires { place < 128 }
-    ensures { result ≡ half place }
+    ensures { result ≡ half_wave place }
 {
     HALF[place as usize]
 }

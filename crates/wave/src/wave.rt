@@ -1,7 +1,7 @@
 ghost use Rattle.std.specs.Prelude.{◌≡◌, ◌≤◌, unsigned_abs};
 ghost use Rattle.wave.specs.Wave.{with_half_sign, wave};
 
-use crate::quarter::half;
+use crate::quarter::half_wave;
 
 // A size with the sign that the wave has at a place.
 pub(crate) fn with_half_sign(place: u32, size: u16) -> i32
@@ -18,5 +18,5 @@ pub fn wave_at(place: u8) -> i32
     ensures bound { unsigned_abs result ≤ 32767 }
 {
     let place = u32::from(place);
-    with_half_sign(place, half(place % 128))
+    with_half_sign(place, half_wave(place % 128))
 }

@@ -2,14 +2,14 @@ ghost use Rattle.std.specs.Prelude.{◌≡◌, OnOk, pos};
 ghost use Rattle.stage.specs.Dac.{dac_pairs};
 ghost use Rattle.stage.specs.Pairs.{zero_pairs, pair_of};
 ghost use Rattle.stage.specs.Pwm.{pwm_pairs};
-ghost use Rattle.windings.specs.Rows.{IsDriven, MeasuresAt, SparesGateTwo, dac_pair};
+ghost use Rattle.windings.specs.Rows.{IsDriven, MeasuresAt, SparesGateTwo, dac_numbers};
 
 use crate::row::{HEADING, Row};
 use crate::settings::Settings;
 use stage::Stage;
 use stage::dac::Dac;
 use stage::pwm::Pwm;
-use stage::wiring::{Wire, Wiring};
+use stage::wiring::{GateWiring, Wiring};
 use std::io;
 use wave::phases::phases;
 
@@ -17,7 +17,7 @@ use wave::phases::phases;
 const GATE: u8 = 1;
 
 /// Wires that change places and negate: behind them a fitter sees the other way of connecting a motor.
-pub const CROSSED: Wire = Wire {
+pub const CROSSED: GateWiring = GateWiring {
     exchanged: true,
     negated: true,
 };
@@ -32,14 +32,14 @@ pub struct Rig {
 
 // The words of the driven gate.
 fn words(dac: &Dac) -> (u16, u16)
-    ensures { dac_pair result ≡ pair_of (dac_pairs dac.now) 1 }
+    ensures { dac_numbers result ≡ pair_of (dac_pairs dac.now) 1 }
 {
     (dac.word(0).unwrap(), dac.word(1).unwrap())
 }
 
 impl Rig {
     /// The PWM stage is wired alike for both gates, and nothing is shown yet.
-    pub fn new(settings: Settings, wire: Wire) -> Rig
+    pub fn new(settings: Settings, wire: GateWiring) -> Rig
         ensures made { (result.settings ≡ settings) × (result.pwm.one ≡ wire) ×
             (result.pwm.two ≡ wire) }
         ensures dark { (dac_pairs result.dac ≡ zero_pairs) ×

@@ -24,11 +24,11 @@ fn apart(a: (i32, i32), b: (i32, i32)) -> (u32, u32)
     (a.0.abs_diff(b.0), a.1.abs_diff(b.1))
 }
 
-fn same_record(a: &Table, b: &Table, gate: u8) -> bool
-    requires { gate < 2 }
-    ensures { Decides result (gate_of (state_of a.now) gate ≡ gate_of (state_of b.now) gate) }
+fn same_record(a: &Table, b: &Table, axis: u8) -> bool
+    requires { axis < 2 }
+    ensures { Decides result (gate_of (state_of a.now) axis ≡ gate_of (state_of b.now) axis) }
 {
-    a.gates[gate as usize].same(&b.gates[gate as usize])
+    a.gates[axis as usize].same(&b.gates[axis as usize])
 }
 
 fn compared<S: Stage + Drop, R: Stage + Drop>(a: &Board<S>, b: &Board<R>, gate: u8) -> Comparison
@@ -53,8 +53,8 @@ pub fn compare<S: Stage + Drop, R: Stage + Drop>(
         (is_gate gate ≡ false)
         (λ c. (is_gate gate ≡ true) × IsComparison S.Stage a.now R.Stage b.now (gate - 1) c) }
     ensures isolated { IsIsolated S.Stage a.now R.Stage b.now }
-    ensures booked { FollowsBook S.Stage a.now }
-    ensures other { FollowsBook R.Stage b.now }
+    ensures booked_a { FollowsBook S.Stage a.now }
+    ensures booked_b { FollowsBook R.Stage b.now }
     ensures attributed { EachEntryBelongs }
 {
     matches!(gate, 1 | 2).then(|| compared(a, b, gate))

@@ -8,7 +8,7 @@ loop-cycle-init g c = run_none g.S.Stage _
 pub loop-cycle-preserved : goal.loop-cycle-preserved
 loop-cycle-preserved g c =
     let m = g.S.Stage in
-    let before = bench_of m c.loop-cycle.desk.board c.loop-cycle.left c.loop-cycle.right in
+    let before = bench_of m c.loop-cycle.desk.board c.loop-cycle.work_one c.loop-cycle.work_two in
     let after = bench_of m c.cycle.new.self.board c.note.new.self c.note-in-loop-cycle.new.self in
     run_more m c.loop-cycle._cycle _ before after c.loop-cycle.invariant
     (cycled_by m before after c.follow-one.result c.follow-two.result c.record.result c.record-in-loop-cycle.result c.record-in-loop-cycle-2.result c.record-in-loop-cycle-3.result

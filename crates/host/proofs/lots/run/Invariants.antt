@@ -4,4 +4,4 @@ use Rattle.host.proofs.lots.run.Given as goal
 
 abbrev pub invariant-loop-cycle : goal.invariant-loop-cycle
 invariant-loop-cycle g l =
-    RunsFor g.S.Stage l._cycle (bench_of g.S.Stage l.fn.desk.board l.fn.left l.fn.right) (bench_of g.S.Stage l.desk.board l.left l.right)
+    RunsFor g.S.Stage l._cycle (bench_of g.S.Stage l.fn.desk.board l.fn.work_one l.fn.work_two) (bench_of g.S.Stage l.desk.board l.work_one l.work_two)

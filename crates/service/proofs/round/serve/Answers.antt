@@ -16,15 +16,15 @@ accepted (Err p) x h kept = absurd (kept p.0 h)
 
 pub unwrap-requires : goal.unwrap-requires
 unwrap-requires g c =
-    accepted c.close.result _ c.close.ensures.did.answers
-    (λ e. closes (state_of c.args.board.now.table) (state_of c.take.new.self.table) c.in-Ok.slip.gate _ e
-    c.in-Ok.slip.known c.in-Ok.ensures.did.answers c.take.ensures.did.state)
+    accepted c.close.result _ c.close.ensures.performs.answers
+    (λ e. closes (state_of c.args.board.now.table) (state_of c.take.new.self.table) c.in-Ok.slip.axis _ e
+    c.in-Ok.slip.known c.in-Ok.ensures.performs.answers c.take.ensures.performs.state)
 
 pub returns-in_default : goal.returns-in_default
-returns-in_default g c = missed g.S.Stage c.args.board.now c.take.new.self c.in_default.field-0 c.in_default.ensures.did
+returns-in_default g c = missed g.S.Stage c.args.board.now c.take.new.self c.in_default.field-0 c.in_default.ensures.performs
 
 pub returns : goal.returns
 returns g c =
-    let k = c.in-Ok.slip.gate in
-    let had = had_turn g.S.Stage c.args.board.now c.take.new.self c.close.new.self k c.args.word _ c.in-Ok.ensures.did c.close.ensures.did in
+    let k = c.in-Ok.slip.axis in
+    let had = had_turn g.S.Stage c.args.board.now c.take.new.self c.close.new.self k c.args.word _ c.in-Ok.ensures.performs c.close.ensures.performs in
     (k, c.gate-gate.ensures, had.0, had.1)

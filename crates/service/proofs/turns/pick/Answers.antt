@@ -11,8 +11,8 @@ returns g c =
     let k = c.in-Ok.slip in
     record {
       held = refl;
-      out = taken_out s (state_of c.take.new.self.table) k.gate k.known c.in-Ok.ensures.did.answers c.take.ensures.did.state;
-      picked = c.in-Ok.ensures.did;
+      out = taken_out s (state_of c.take.new.self.table) k.axis k.known c.in-Ok.ensures.performs.answers c.take.ensures.performs.state;
+      picked = c.in-Ok.ensures.performs;
       none = λ no. cc;
     }
 
@@ -25,6 +25,6 @@ returns-in_default g c =
     record {
       held = ap is_some e;
       out = subst held e tt;
-      picked = subst picked e (c.in_default.field-0, c.in_default.ensures.did);
-      none = λ no. taken_none s c.in_default.field-0 c.in_default.ensures.did.answers;
+      picked = subst picked e (c.in_default.field-0, c.in_default.ensures.performs);
+      none = λ no. taken_none s c.in_default.field-0 c.in_default.ensures.performs.answers;
     }

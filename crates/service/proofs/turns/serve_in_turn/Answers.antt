@@ -1,5 +1,5 @@
 use Rattle.std.proofs.Common.{[], ◌∷◌, sym, ap, ◌∙◌}
-use Rattle.board.specs.Acts.{act_take, lendable}
+use Rattle.board.specs.Acts.{act_take, waiting_gate}
 use Rattle.board.proofs.Sequences.{performed_lists}
 use Rattle.service.specs.Turns.{service_acts}
 use Rattle.service.proofs.Hands.{turned, idle}
@@ -14,7 +14,7 @@ returns-then-not-two-clause-served g c =
     let none = idle g.S.Stage c.put.new.board c.pick-two.new.board c.pick-two.new.hand (c.if-not-two.ensures {u = tt}).held c.pick-two.ensures.picked in (
       first.0,
       first.1,
-      sym (ap lendable first.2.state) ∙ none.0,
+      sym (ap waiting_gate first.2.state) ∙ none.0,
       none.1.state ∙ first.2.state,
       performed_lists g.S.Stage (act_take ∷ []) (service_acts first.0 c.args.first []) _ _ _ first.2 none.2,
     )
@@ -26,6 +26,6 @@ returns-clause-served g c =
       first.0,
       second.0,
       first.1,
-      second.1 ∙ ap lendable first.2.state,
+      second.1 ∙ ap waiting_gate first.2.state,
       performed_lists g.S.Stage (service_acts second.0 c.args.second []) (service_acts first.0 c.args.first []) _ _ _ first.2 second.2,
     )

@@ -3,7 +3,7 @@ use Rattle.board.proofs.Owed.{performs}
 use Rattle.board.proofs.board.Board.close.Goals as goal
 
 pub returns-in-Err : goal.returns-in-Err
-returns-in-Err g c = record { did = performs _ _ _ _ _ c.in-Err.ensures.answer c.close.ensures.state refl (λ e. refl); back = refl }
+returns-in-Err g c = record { performs = performs _ _ _ _ _ c.in-Err.ensures.answer c.close.ensures.state refl (λ e. refl); back = refl }
 
-pub returns-in-Ok-clause-did : goal.returns-in-Ok-clause-did
-returns-in-Ok-clause-did g c = performs _ _ _ _ _ c.in-Ok.ensures.answer c.close.ensures.state refl (λ e. refl)
+pub returns-in-Ok-clause-performs : goal.returns-in-Ok-clause-performs
+returns-in-Ok-clause-performs g c = performs _ _ _ _ _ c.in-Ok.ensures.answer c.close.ensures.state refl (λ e. refl)

@@ -7,12 +7,12 @@ use Rattle.board.proofs.table.Table.close.Goals as goal
 pub returns : goal.returns
 returns c =
     let t = c.args.self.now in
-    let k = c.args.gate in
-    let h = c.requires.gate in
+    let k = c.args.axis in
+    let h = c.requires.axis in
     let u : Table = record { gates = set t.gates k c.close.new.self; current = t.current; port = t.port } in
     record {
       answer = close_answer t k c.args.word h (search rules);
       state =
           close_state t k c.args.word h (search rules) u (entered t u k (entry_close c.args.word) c.close.new.self (search rules) h refl c.close.ensures.is refl refl);
-      fit = fit_set t u k c.close.new.self c.requires.fit (c.close.ensures.sound (sound_at t k h c.requires.fit)) refl c.requires.fit.current;
+      sound = fit_set t u k c.close.new.self c.requires.sound (c.close.ensures.sound (sound_at t k h c.requires.sound)) refl c.requires.sound.current;
     }

@@ -16,6 +16,6 @@ returns c =
       shows = both_shown t u x y (search rules) refl _ _ c.cycle-phases_one.ensures.shows c.cycle-phases_two.ensures.shows;
       state =
           both_cycled t u x y (search rules) refl c.args.one c.args.two refl refl c.cycle-phases_one.ensures.is c.cycle-phases_two.ensures.is;
-      fit =
+      sound =
           both_fit t u x y (search rules) refl c.requires c.requires.current c.cycle-phases_one.ensures.sound c.cycle-phases_two.ensures.sound;
     }

@@ -9,5 +9,5 @@ returns c =
     record {
       state =
           entered t _ t.current (entry_order c.args.order) c.run.new.self (search rules) c.requires.current refl c.run.ensures.is refl refl;
-      fit = fit_set t _ t.current c.run.new.self c.requires (c.run.ensures.sound (sound_at t t.current c.requires.current c.requires)) refl c.requires.current;
+      sound = fit_set t _ t.current c.run.new.self c.requires (c.run.ensures.sound (sound_at t t.current c.requires.current c.requires)) refl c.requires.current;
     }

@@ -6,5 +6,5 @@ use Rattle.desk.proofs.desk.Desk.close.Goals as goal
 
 pub returns : goal.returns
 returns g c =
-    let gate : c.in-Some.slip.gate ≡ c.args.gate - 1 = search rules in
+    let gate : c.in-Some.slip.axis ≡ c.args.gate - 1 = search rules in
     (search rules, subst (λ k. Performs g.S.Stage (act_close k c.args.word) answer_done c.args.self.now.board c.close_out.new.board) gate c.close_out.ensures)

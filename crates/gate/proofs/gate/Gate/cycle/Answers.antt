@@ -10,8 +10,8 @@ returns c =
     let i = c.args.inputs in
     let g = c.args.self.now in
     let is : c.settle.new.self ≡ cycle i g =
-    chained i g c.tick.new.self c.encode.new.self c.trip.new.self c.meet.new.self c.advance.new.self c.settle.new.self
-    c.tick.ensures.is c.encode.ensures.is c.trip.ensures.is c.meet.ensures.is c.advance.ensures.is c.settle.ensures.is in
+    chained i g c.tick.new.self c.add_count.new.self c.trip.new.self c.meet.new.self c.advance.new.self c.settle.new.self
+    c.tick.ensures.is c.add_count.ensures.is c.trip.ensures.is c.meet.ensures.is c.advance.ensures.is c.settle.ensures.is in
     record {
       is = is;
       shows = c.phases.ensures;

@@ -1,7 +1,7 @@
 use Rattle.std.proofs.Common.{◌≡◌, Bool, true, false, Ok, refl, sym, ap, ◌∙◌, ℤ, w32, SFits, to_z, rules}
 use Rattle.std.proofs.lemmas.Int.{to_z-of_z}
 use Rattle.gate.specs.declared.load.Load.TheVariants.{Acceleration}
-use Rattle.gate.specs.Loads.{is_in_signed_range, load_fits}
+use Rattle.gate.specs.Loads.{is_in_signed_range, is_load_in_range}
 use Rattle.gate.specs.Orders.{value_if_fits}
 use Rattle.gate.proofs.gate.Gate.try_long.Goals as goal
 
@@ -23,5 +23,5 @@ pub returns-in_ok-acceleration-in-Acceleration-clause-sound : goal.returns-in_ok
 returns-in_ok-acceleration-in-Acceleration-clause-sound c =
     let taken = c.in_ok-acceleration-in-Acceleration in
     let bits : SFits w32 taken.field-0 = search rules in
-    let fits : ℤ → Bool = λ x. load_fits (Acceleration x) in
+    let fits : ℤ → Bool = λ x. is_load_in_range (Acceleration x) in
     c.load-in-Acceleration.ensures.sound (ap fits (to_z-of_z w32 _ bits) ∙ checked_fits fits (to_z w32 c.args.value) _ (sym c.acceleration.ensures ∙ taken.was))

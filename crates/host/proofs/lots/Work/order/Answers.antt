@@ -11,7 +11,7 @@ returns g c =
     let x = notes_of c.args.self.now in
     let noted = ap (λ os. record x { outcomes = os }) (c.in_ok-push.ensures.items ∙ ap (λ o. x.outcomes ++ (o ∷ [])) c.new.ensures) in
     let P = λ (d : ℕ) (y : Notes). OnOk c.send.result (NotesPackets g.S.Stage
-    (packet.Plain (command.Status x.whose) ∷ (packet.Long (command.Long Destination) d ∷ drop 2 (load_packets x.whose c.args.lot)))
+    (packet.Plain (command.Status x.named) ∷ (packet.Long (command.Long Destination) d ∷ drop 2 (load_packets x.named c.args.lot)))
     y c.args.desk.now.board (notes_of c.send.new.self) c.send.new.desk.board) in
     let bits : c.cast_unsigned-destination.result ≡ cast_unsigned w32 c.args.lot.destination = search rules in
     subst (P _) noted (subst (λ (d : ℕ). P d (notes_of (record c.args.self.now { outcomes = c.push.new.self }))) bits c.send.ensures)

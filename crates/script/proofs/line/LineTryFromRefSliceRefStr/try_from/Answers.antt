@@ -12,5 +12,5 @@ returns-in_err-read-in_default-verb c =
     let p = err_from_is_err_and c.from_residual-in_err-read-in_default-verb.result c.from_residual-in_err-read-in_default-verb.ensures.1 in
     let named = c.ok_or-in_default-verb.ensures.ok_part ∙ ap result_ok c.in_ok-command-in_default-verb.was in
     let none : Bor (List ℕ) = record { ref_ptr = (0, 0); now = [] } in
-    let name = subst (λ (o : Option Command). NamesCommand (get_or c.args.words.now 0 none).now o) named c.named.ensures in
+    let name = subst (λ (o : Option Command). NamesCommand (get_or c.args.words.now 0 none).now o) named c.command_named.ensures in
     rw (p.1, p.2) (says_refused c.args.words.now none c.in_ok-command-in_default-verb.command _ (omega arith) name c.in_err-read-in_default-verb.ensures)

@@ -2,16 +2,16 @@ use Rattle.std.proofs.Common.{◌≡◌, Bool, true, false, ℤ, ap, ◌∙◌, 
 use Rattle.std.specs.Result.{is_ok}
 use Rattle.gate.specs.declared.load.Load.TheVariants as load
 use Rattle.gate.specs.Gates.{latch}
-use Rattle.gate.specs.Loads.{load_fits, with_load}
+use Rattle.gate.specs.Loads.{is_load_in_range, with_load}
 use Rattle.travel.specs.Plans.{has_good_acceleration, has_good_destination, has_good_power, has_good_velocity}
 use Rattle.travel.proofs.Takes.{goes_on, fits_bits, sends, speeds, hastens, powers}
 use Rattle.travel.proofs.journey.Journey.new.Goals as goal
 
 abbrev to_destination : ℤ → Bool
-to_destination z = load_fits (load.Destination z)
+to_destination z = is_load_in_range (load.Destination z)
 
 abbrev to_acceleration : ℤ → Bool
-to_acceleration z = load_fits (load.Acceleration z)
+to_acceleration z = is_load_in_range (load.Acceleration z)
 
 pub returns-in_err-or-3 : goal.returns-in_err-or-3
 returns-in_err-or-3 c =

@@ -1,9 +1,9 @@
 use borrow.Author.Tests.{true-leb}
 use Rattle.std.proofs.Common.{◌≡◌, subst, arith}
 use Rattle.motion.specs.StoppingDistance.{stopping_distance}
-use Rattle.motion.specs.Speed.{IsLargest}
+use Rattle.motion.specs.Speed.{IsLargestSpeed}
 use Rattle.motion.proofs.Fastest.{largest_is, largest_only, largest_next, largest_top}
-use Rattle.motion.proofs.rate.Rate.largest.Goals as goal
+use Rattle.motion.proofs.rate.Rate.largest_speed.Goals as goal
 
 pub returns-then-floor-top-clause-is : goal.returns-then-floor-top-clause-is
 returns-then-floor-top-clause-is c =
@@ -29,4 +29,4 @@ returns-else-pivot-next-clause-best c above =
     let found = c.bisect-else-pivot-next in
     let best = largest_next _ _ c.args.top _ (omega arith) (omega arith) found.ensures.fits found.ensures.over in
     let same : found.result ≡ c.max.result = omega arith in
-    subst (IsLargest c.args.self.size c.args.distance c.args.top) same best
+    subst (IsLargestSpeed c.args.self.size c.args.distance c.args.top) same best

@@ -10,7 +10,7 @@ use stage::Stage;
 
 /// What is answered to an entry that is not refused.
 #[derive(Clone, Copy)]
-pub enum Answer {
+pub enum Reply {
     Accepted,
     Word(u16),
     // the gate of the slip that was taken
@@ -21,20 +21,20 @@ pub enum Answer {
     Look,
 }
 
-impl Answer {
+impl Reply {
     /// Writes an answer of a board.
     pub fn put<S: Stage + Drop>(self, board: &Board<S>, out: &mut Out<'_>) -> Result<(), Fault>
         ensures { AppendsOrNone out.old out.new (answer_bytes S.Stage (Ok self) board.now) result }
     {
         match self {
-            Answer::Accepted => out.write(&[0]),
-            Answer::Word(word) => {
+            Reply::Accepted => out.write(&[0]),
+            Reply::Word(word) => {
                 let [high, low] = word.to_be_bytes();
                 out.write(&[0x10, high, low])
             }
-            Answer::Slip(gate) => out.write(&[0x11, gate]),
-            Answer::NoSlip => out.write(&[0x12]),
-            Answer::Look => put_look(out, board),
+            Reply::Slip(gate) => out.write(&[0x11, gate]),
+            Reply::NoSlip => out.write(&[0x12]),
+            Reply::Look => put_look(out, board),
         }
     }
 }

@@ -1,5 +1,5 @@
 use Rattle.wave.proofs.Waves.{halves}
-use Rattle.wave.proofs.quarter.half.Goals as goal
+use Rattle.wave.proofs.quarter.half_wave.Goals as goal
 
 pub returns : goal.returns
 returns c = halves c.args.place c.requires
