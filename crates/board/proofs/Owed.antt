@@ -10,8 +10,8 @@ use Rattle.board.specs.declared.port.Port.TheVariants.{Idle, TakingWord, TakingH
 use Rattle.board.specs.declared.refusal.Refusal.{Refusal}
 use Rattle.board.specs.declared.refusal.Refusal.TheVariants.{OutOfRange}
 use Rattle.board.specs.declared.board.Board.{Board}
-use Rattle.board.specs.Own.{entry_reset, entry_cycle, entry_order, entry_word_order, entry_long_order, entry_query, entry_status, entry_take, entry_close, Answer, answer_refused, order_answer}
-use Rattle.board.specs.Acts.{State, state_of, gate_of, entries, Act, act_command, act_write, act_read, act_cycle, act_reset, act_take, act_close, Transition, refuse, wait, enter, multi_update, refuse_value, give, cycle_both, reset_both, step_transition, transition, state_past_port, next_state, transition_answer, act_answer, state_after_act, answer}
+use Rattle.board.specs.Own.{entry_word_order, entry_long_order, Answer, answer_refused, order_answer}
+use Rattle.board.specs.Acts.{State, state_of, gate_of, entries, Act, act_command, act_write, act_read, act_cycle, act_reset, Transition, refuse, enter, multi_update, refuse_value, step_transition, transition, state_past_port, next_state, transition_answer, act_answer, state_after_act, answer}
 use Rattle.board.specs.Commands.{command_of}
 use Rattle.board.specs.Ports.{port_after_command, command_step, port_after_write, write_step, port_after_read, read_step}
 use Rattle.board.specs.Owners.{SetsCurrent}

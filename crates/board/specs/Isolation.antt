@@ -6,7 +6,7 @@ use Rattle.stage.specs.declared.Stage.{Ghosts}
 use Rattle.gate.specs.declared.gate.Gate.{Gate}
 use Rattle.gate.specs.declared.inputs.Inputs.{Inputs}
 use Rattle.gate.specs.declared.orders.Order.{Order}
-use Rattle.gate.specs.declared.orders.Order.TheVariants.{Mode, Stop, Update, Auto, Break, Motor}
+use Rattle.gate.specs.declared.orders.Order.TheVariants.{Mode, Stop, Update}
 use Rattle.gate.specs.declared.orders.LongOrder.{LongOrder}
 use Rattle.gate.specs.declared.orders.LongOrder.TheVariants as long
 use Rattle.gate.specs.declared.profile.Profile.{Profile}
@@ -14,9 +14,9 @@ use Rattle.gate.specs.Cycles.{tick, add_count, trip, is_breakpoint_met}
 use Rattle.gate.specs.Orders.{is_long_in_range}
 use Rattle.gate.specs.Profile.{first_profile}
 use Rattle.board.specs.declared.port.Port.{Port}
-use Rattle.board.specs.declared.port.Port.TheVariants.{Idle, TakingWord, TakingHigh, TakingLow, TakingGates, Giving}
+use Rattle.board.specs.declared.port.Port.TheVariants.{Giving}
 use Rattle.board.specs.declared.board.Board.{Board}
-use Rattle.board.specs.Own.{OwnEntry, entry_reset, entry_cycle, entry_order, entry_word_order, entry_long_order, entry_query, entry_status, entry_take, entry_close, Answer, answer_done, answer_words, join, gate_by_own_list}
+use Rattle.board.specs.Own.{OwnEntry, entry_reset, entry_cycle, entry_order, entry_long_order, entry_query, entry_status, Answer, answer_done, answer_words, join, gate_by_own_list}
 use Rattle.board.specs.Acts.{State, state_of, gate_of, Act, Transition, transition, entries, port_after, transition_answer}
 use Rattle.board.specs.Owners.{GrowsByEntry}
 use Rattle.board.specs.Runs.{state_after, axis_pair, IsReachedBy}

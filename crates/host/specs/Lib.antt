@@ -3,3 +3,4 @@ pub mod Lots
 pub mod Works
 pub mod Scripts
 pub mod Prints
+pub mod Tasks

@@ -42,3 +42,7 @@ module _ {S R : Type 0} (m : Ghosts S) (n : Ghosts R) (look : S → Codes) (see 
   PlaysScript (t ∷ ts) faults x y =
       (z : Boards S R m n) × (readable : Bool) × (rest : ℕ) × PlaysText t readable x z × PlaysScript ts rest z y
       × (faults ≡ cond readable rest (suc rest))
+
+  -- the same, and all could be read
+  abbrev pub PlaysWhole : List (List ℕ) → Boards S R m n → Type 0
+  PlaysWhole texts x = (y : Boards S R m n) × PlaysScript texts 0 x y

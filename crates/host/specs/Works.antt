@@ -1,5 +1,5 @@
 -- How lots are worked: the packets, cycles and services of each gate, and what is noted of them.
-use Rattle.std.specs.Prelude.{◌≡◌, ℕ, zero, suc, ◌-◌, true, List, [], ◌∷◌, ◌++◌, pos, neg_ℤ, ◌-ℤ◌, Some, None, Ok, Err, Option, Result, length, slice_get}
+use Rattle.std.specs.Prelude.{◌≡◌, ℕ, zero, suc, true, List, [], ◌∷◌, ◌++◌, pos, neg_ℤ, ◌-ℤ◌, Some, None, Ok, Err, Option, Result, length, slice_get}
 use Rattle.std.specs.Option.{option_and_then}
 use Rattle.std.specs.Int.{w32, int_min, int_max, cast_unsigned}
 use Rattle.stage.specs.declared.Stage.{Ghosts}
@@ -183,3 +183,7 @@ module _ {S : Type 0} (m : Ghosts S) where
 
   abbrev pub new_bench : Board S m → Bench
   new_bench b = record { board = b; notes_one = no_notes First; notes_two = no_notes Second }
+
+  -- the lots are worked on a board, whatever is noted
+  abbrev pub WorksOn : List Lot → Option (List Lot) → Board S m → Board S m → Type 0
+  WorksOn lots lots_two b d = (t : Bench) × WorksAll lots lots_two (new_bench b) t × (t.board ≡ d)

@@ -1,3 +1,7 @@
+ghost use Rattle.std.specs.Prelude.{OnOk};
+ghost use Rattle.std.specs.Str.Lines.{lines};
+ghost use Rattle.host.specs.Scripts.{PlaysWhole};
+
 use crate::makes::{Make, Makes};
 use crate::report::show_lots;
 use crate::session::play_script;
@@ -24,62 +28,54 @@ const MAKES: Makes = Makes {
     b: Make::Pwm,
 };
 
-// What is done on two new boards, whatever the makes of their stages.
-trait Task {
-    fn work<S: Wires + Drop, R: Wires + Drop>(
-        self,
-        rt: &HostRuntime,
-        a: S,
-        b: R,
-    ) -> anyhow::Result<()>;
+// What is done on two new boards.
+#[derive(Clone, Copy)]
+enum Task<'a> {
+    Script(&'a str),
+    Lots,
 }
 
-// Plays a script.
-#[derive(Clone, Copy)]
-struct Script<'a>(&'a str);
-
-impl Task for Script<'_> {
-    fn work<S: Wires + Drop, R: Wires + Drop>(
-        self,
-        rt: &HostRuntime,
-        a: S,
-        b: R,
-    ) -> anyhow::Result<()> {
-        let mut boards = Boards::new(a, b);
-        let played = play_script(rt, &mut boards, self.0);
-        boards.finish();
-        ensure!(played? == 0, "some lines could not be read");
-        Ok(())
-    }
+// Plays a script; a line that cannot be read is an error once all are played.
+fn play_on<S: Wires + Drop, R: Wires + Drop>(
+    rt: &HostRuntime,
+    mut boards: Boards<S, R>,
+    script: &str,
+) -> anyhow::Result<()>
+    ensures { OnOk result (PlaysWhole S.Stage R.Stage S.codes R.codes (lines script.now) boards) }
+{
+    let played = play_script(rt, &mut boards, script);
+    boards.finish();
+    ensure!(played? == 0, "some lines could not be read");
+    Ok(())
 }
 
-// Works lots through both gates; the makes are printed.
-#[derive(Clone, Copy)]
-struct Lots(Makes);
-
-impl Task for Lots {
-    fn work<S: Wires + Drop, R: Wires + Drop>(
-        self,
-        rt: &HostRuntime,
-        a: S,
-        b: R,
-    ) -> anyhow::Result<()> {
-        let mut a = Desk::new(a);
-        let mut b = Desk::new(b);
-        let shown = show_lots(rt, self.0, &mut a, &mut b);
-        let _a = a.finish();
-        let _b = b.finish();
-        shown
+// Does a task, whatever the makes of the boards' stages.
+fn perform<S: Wires + Drop, R: Wires + Drop>(
+    rt: &HostRuntime,
+    makes: Makes,
+    task: Task,
+    a: S,
+    b: R,
+) -> anyhow::Result<()> {
+    match task {
+        Task::Script(script) => play_on(rt, Boards::new(a, b), script),
+        Task::Lots => {
+            let (mut a, mut b) = (Desk::new(a), Desk::new(b));
+            let shown = show_lots(rt, makes, &mut a, &mut b);
+            a.finish();
+            b.finish();
+            shown
+        }
     }
 }
 
 // Each pair of makes is a type of its own, so there is a call for each.
-fn on_stages<T: Task>(rt: &HostRuntime, makes: Makes, task: T) -> anyhow::Result<()> {
+fn on_stages(rt: &HostRuntime, makes: Makes, task: Task) -> anyhow::Result<()> {
     match (makes.a, makes.b) {
-        (Make::Dac, Make::Dac) => task.work(rt, Dac::new(), Dac::new()),
-        (Make::Dac, Make::Pwm) => task.work(rt, Dac::new(), Pwm::new()),
-        (Make::Pwm, Make::Dac) => task.work(rt, Pwm::new(), Dac::new()),
-        (Make::Pwm, Make::Pwm) => task.work(rt, Pwm::new(), Pwm::new()),
+        (Make::Dac, Make::Dac) => perform(rt, makes, task, Dac::new(), Dac::new()),
+        (Make::Dac, Make::Pwm) => perform(rt, makes, task, Dac::new(), Pwm::new()),
+        (Make::Pwm, Make::Dac) => perform(rt, makes, task, Pwm::new(), Dac::new()),
+        (Make::Pwm, Make::Pwm) => perform(rt, makes, task, Pwm::new(), Pwm::new()),
     }
 }
 
@@ -88,15 +84,15 @@ fn from_input(rt: &HostRuntime, makes: Makes) -> anyhow::Result<()> {
     let text = io::read_to_string(rt.alloc(), rt.stdin())?;
     let script = text.as_str();
     if script.trim().is_empty() {
-        on_stages(rt, makes, Lots(makes))
+        on_stages(rt, makes, Task::Lots)
     } else {
-        on_stages(rt, makes, Script(script))
+        on_stages(rt, makes, Task::Script(script))
     }
 }
 
 fn from_file(rt: &HostRuntime, makes: Makes, path: &str) -> anyhow::Result<()> {
     let text = fs::read_to_string(rt, path)?;
-    on_stages(rt, makes, Script(text.as_str()))
+    on_stages(rt, makes, Task::Script(text.as_str()))
 }
 
 fn show_usage(rt: &HostRuntime) -> anyhow::Result<()> {

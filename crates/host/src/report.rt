@@ -1,11 +1,14 @@
+ghost use Rattle.std.specs.Prelude.{◌≡◌, Some, None, OnOk};
+ghost use Rattle.std.specs.List.{zip, count_by};
+ghost use Rattle.desk.specs.Desks.{board_of};
+ghost use Rattle.host.specs.Works.{WorksOn};
+
 use crate::lot::{HEADING, LOTS_ONE, LOTS_TWO};
 use crate::lots::{Work, work_lots};
 use crate::makes::Makes;
 use board::board::Board;
 use board::board::compare::compare;
-use board::refusal::Refusal;
 use desk::desk::Desk;
-use script::reply::Reply;
 use stage::Stage;
 
 fn show_work(rt: &HostRuntime, gate: u8, work: &Work) -> anyhow::Result<()> {
@@ -17,7 +20,9 @@ fn show_work(rt: &HostRuntime, gate: u8, work: &Work) -> anyhow::Result<()> {
 }
 
 // How many answers of two lists are equal, place by place.
-fn alike(a: &[Result<Reply, Refusal>], b: &[Result<Reply, Refusal>]) -> usize {
+fn alike<T: PartialEq>(a: &[T], b: &[T]) -> usize
+    ensures { result ≡ count_by (λ p. T.PartialEq.eq p.0 p.1) (zip a.now b.now) }
+{
     a.iter().zip(b).filter(|(x, y)| **x == **y).count()
 }
 
@@ -42,7 +47,11 @@ pub fn show_lots<S: Stage + Drop, R: Stage + Drop>(
     makes: Makes,
     a: &mut Desk<S>,
     b: &mut Desk<R>,
-) -> anyhow::Result<()> {
+) -> anyhow::Result<()>
+    ensures { OnOk result
+        (WorksOn S.Stage LOTS_ONE (Some LOTS_TWO) (board_of a.old) (board_of a.new) ×
+        WorksOn R.Stage LOTS_ONE None (board_of b.old) (board_of b.new)) }
+{
     let (one, two) = work_lots(rt.alloc(), a, &LOTS_ONE, Some(&LOTS_TWO))?;
     let (again, _idle) = work_lots(rt.alloc(), b, &LOTS_ONE, None)?;
     let (first, second) = (makes.a, makes.b);

@@ -1,4 +1,3 @@
-use Rattle.std.proofs.Common.{◌≡◌}
 use Rattle.host.specs.Works.{RunsFor, bench_of}
 use Rattle.host.proofs.lots.run.Given as goal
 

@@ -1,4 +1,3 @@
-use Rattle.std.proofs.Common.{◌≡◌}
 use Rattle.std.specs.Option.{option_copied}
 use Rattle.host.specs.Works.{WorksInTurn, bench_of}
 use Rattle.host.proofs.lots.work_lots.Given as goal

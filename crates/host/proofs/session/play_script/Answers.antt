@@ -1,4 +1,4 @@
-use Rattle.std.proofs.Common.{rules, ◌≡◌, suc, true, false, cond, map, ℕ, List, [], ◌∷◌, length-append, refl, sym, ap, subst, ◌∙◌, arith, add-one}
+use Rattle.std.proofs.Common.{rules, ◌≡◌, suc, true, false, cond, ℕ, List, [], ◌∷◌, length-append, sym, ap, subst, ◌∙◌, arith, add-one}
 use Rattle.std.specs.Borrow.{Bor}
 use Rattle.std.specs.Str.Lines.{lines}
 use Rattle.std.specs.Str.Iter.{lines_rest}

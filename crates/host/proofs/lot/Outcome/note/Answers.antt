@@ -1,7 +1,6 @@
 use Rattle.std.proofs.Common.{rules, ◌≡◌, ◌∙◌, ap, ℤ, to_z, of_z, w32, w64}
 use Rattle.std.proofs.lemmas.Int.{to_z-of_z}
 use Rattle.motion.specs.Course.{microsteps}
-use Rattle.host.specs.declared.lot.Outcome.{Outcome}
 use Rattle.host.specs.Lots.{outcome_after}
 use Rattle.host.proofs.lot.Outcome.note.Goals as goal
 

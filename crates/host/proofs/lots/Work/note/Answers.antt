@@ -1,4 +1,4 @@
-use Rattle.std.proofs.Common.{◌≡◌, ◌-◌, ◌∙◌, ◌<◌, suc, length, refl, ap, sym, arith, slice_set}
+use Rattle.std.proofs.Common.{◌≡◌, ◌-◌, ◌∙◌, ◌<◌, length, refl, ap, sym, arith, slice_set}
 use Rattle.host.specs.Lots.{outcome_after}
 use Rattle.host.specs.Works.{notes_of}
 use Rattle.host.proofs.Works.{last_noted_at}

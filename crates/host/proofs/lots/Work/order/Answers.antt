@@ -3,7 +3,7 @@ use Rattle.std.specs.Int.{w32, cast_unsigned}
 use Rattle.gate.specs.declared.orders.LongOrder.TheVariants.{Destination}
 use Rattle.board.specs.declared.command.Command.TheVariants as command
 use Rattle.script.specs.declared.line.Packet.TheVariants as packet
-use Rattle.host.specs.Works.{NotesPackets, Notes, notes_of, load_packets, with_lot}
+use Rattle.host.specs.Works.{NotesPackets, Notes, notes_of, load_packets}
 use Rattle.host.proofs.lots.Work.order.Goals as goal
 
 pub returns : goal.returns

@@ -1,4 +1,4 @@
-use Rattle.std.proofs.Common.{◌≡◌, ◌∷◌, [], ◌++◌, take, arith}
+use Rattle.std.proofs.Common.{◌∷◌, [], ◌++◌, arith}
 use Rattle.host.specs.Works.{notes_of}
 use Rattle.host.proofs.Works.{answered_next, noted_more}
 use Rattle.host.proofs.lots.Work.send.Goals as goal

@@ -1,4 +1,4 @@
-use Rattle.std.proofs.Common.{◌≡◌, take}
+use Rattle.std.proofs.Common.{take}
 use Rattle.host.specs.Works.{NotesPackets, notes_of}
 use Rattle.host.proofs.lots.Work.send.Given as goal
 
