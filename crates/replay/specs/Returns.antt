@@ -7,7 +7,7 @@ use Rattle.stage.specs.declared.pwm.Lines.{Lines}
 use Rattle.stage.specs.declared.wiring.Wiring.{Wiring}
 use Rattle.stage.specs.Dac.{dac_pairs}
 use Rattle.stage.specs.Pwm.{pwm_pairs}
-use Rattle.stage.specs.Wiring.{unwired_pairs}
+use Rattle.stage.specs.Wiring.{wiring_pairs}
 use Rattle.replay.specs.declared.fault.Fault.{Fault}
 use Rattle.replay.specs.declared.fault.Fault.TheVariants.{NoRoom}
 use Rattle.replay.specs.Faults.{fault_number}
@@ -18,7 +18,7 @@ abbrev pub stage_a : Ghosts (Levels Word)
 stage_a = record { STEP = 1; pairs = dac_pairs }
 
 abbrev pub stage_b : Ghosts (Wiring (Levels Lines))
-stage_b = record { STEP = 128; pairs = λ s. unwired_pairs s.one s.two (pwm_pairs s.below) }
+stage_b = record { STEP = 128; pairs = wiring_pairs pwm_pairs }
 
 abbrev pub return_code : Result (Unit {0}) Fault → ℕ
 return_code (Ok u) = 0

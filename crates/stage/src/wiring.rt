@@ -1,7 +1,7 @@
 ghost use Rattle.std.specs.Prelude.{◌≡◌, ℕ, neg_ℤ};
 ghost use Rattle.stage.specs.Quantize.{quantize};
 ghost use Rattle.stage.specs.Pairs.{IsBounded, quantized_pair, pairs_after_show};
-ghost use Rattle.stage.specs.Wiring.{unwired_pair, unwired_pairs};
+ghost use Rattle.stage.specs.Wiring.{unwired_pair, wiring_pairs, wires_of};
 ghost use Rattle.std.proofs.Common.{rules};
 
 use crate::Stage;
@@ -24,6 +24,7 @@ pub struct Wiring<S: Stage + Drop> {
 }
 
 impl<S: Stage + Drop> Wiring<S> {
+    /// A stage behind the wires of gate 1 and of gate 2.
     pub fn new(below: S, one: GateWiring, two: GateWiring) -> Wiring<S>
         ensures { result ≡ record { below = below; one = one; two = two } }
     {
@@ -38,6 +39,7 @@ impl<S: Stage + Drop> Wiring<S> {
         if gate == 1 { self.one } else { self.two }
     }
 
+    /// The stage below.
     pub fn below(&self) -> &S
         ensures { result.now ≡ self.now.below }
     {
@@ -79,15 +81,14 @@ impl<S: Stage + Drop> Stage for Wiring<S> {
 
     ghost STEP = { S.Stage.STEP };
 
-    ghost pairs = { λ s. unwired_pairs s.one s.two (S.Stage.pairs s.below) };
+    ghost pairs = { wiring_pairs S.Stage.pairs };
 
     ghost range = { Prim.search rules };
 
     fn show(&mut self, gate: u8, a: i32, b: i32)
-        ensures pairs { unwired_pairs self.new.one self.new.two (S.Stage.pairs self.new.below) ≡
-            pairs_after_show S.Stage.STEP
-            (unwired_pairs self.old.one self.old.two (S.Stage.pairs self.old.below)) gate a b }
-        ensures wires { (self.new.one ≡ self.old.one) × (self.new.two ≡ self.old.two) }
+        ensures pairs { wiring_pairs S.Stage.pairs self.new ≡
+            pairs_after_show S.Stage.STEP (wiring_pairs S.Stage.pairs self.old) gate a b }
+        ensures wires { wires_of self.new ≡ wires_of self.old }
     {
         let (a, b) = wired_pair(self.wire(gate), a, b);
         self.below.show(gate, a, b);

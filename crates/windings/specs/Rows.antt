@@ -1,10 +1,10 @@
 -- What one line of a trial holds.
 use Rattle.std.specs.Prelude.{◌≡◌, ℕ, true, cond, ℤ}
 use Rattle.stage.specs.Dac.{dac_number, dac_pairs}
-use Rattle.stage.specs.Pairs.{Pair, Pairs, quantized_pair}
+use Rattle.stage.specs.Pairs.{Pair, quantized_pair}
 use Rattle.stage.specs.Pulse.{pulse_numbers, have_no_negative_zero}
 use Rattle.stage.specs.Pwm.{pwm_pairs}
-use Rattle.stage.specs.Wiring.{unwired_pair, unwired_pairs}
+use Rattle.stage.specs.Wiring.{unwired_pair, wiring_pairs}
 use Rattle.stage.specs.declared.dac.Word.{Word}
 use Rattle.stage.specs.declared.levels.Levels.{Levels}
 use Rattle.stage.specs.declared.pulse.Pulse.{Pulse}
@@ -29,19 +29,15 @@ pub record MeasuresAt (s : Settings) (wire : GateWiring) (position : ℤ) (r : R
   pub pulses : unwired_pair wire (pulse_numbers r.pulses) ≡ r.pwm
   pub signs : have_no_negative_zero r.pulses ≡ true
 
--- what a rig's PWM stage shows through its wiring
-abbrev pub wiring_pairs : Wiring (Levels Lines) → Pairs
-wiring_pairs w = unwired_pairs w.one w.two (pwm_pairs w.below)
-
 -- both stages show gate 1 what they keep of the phases of the motor at a position
 pub record IsDriven (s : Settings) (position : ℤ) (d : Levels Word) (w : Wiring (Levels Lines)) : Type 0 where
   pub dac : (dac_pairs d).one ≡ quantized_pair 1 (phases s.kind s.power position)
-  pub pwm : (wiring_pairs w).one ≡ quantized_pair 128 (phases s.kind s.power position)
+  pub pwm : (wiring_pairs pwm_pairs w).one ≡ quantized_pair 128 (phases s.kind s.power position)
 
 -- gate 2 is not driven: no stage shows anything else of it than before
 pub record SparesGateTwo (d e : Levels Word) (w x : Wiring (Levels Lines)) : Type 0 where
   pub dac : (dac_pairs e).two ≡ (dac_pairs d).two
-  pub pwm : (wiring_pairs x).two ≡ (wiring_pairs w).two
+  pub pwm : (wiring_pairs pwm_pairs x).two ≡ (wiring_pairs pwm_pairs w).two
 
 -- the sign of a pulse as it is printed: '-' or '+'
 abbrev pub sign_of : Pulse → ℕ

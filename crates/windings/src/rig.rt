@@ -2,6 +2,7 @@ ghost use Rattle.std.specs.Prelude.{◌≡◌, OnOk, pos};
 ghost use Rattle.stage.specs.Dac.{dac_pairs};
 ghost use Rattle.stage.specs.Pairs.{zero_pairs, pair_of};
 ghost use Rattle.stage.specs.Pwm.{pwm_pairs};
+ghost use Rattle.stage.specs.Wiring.{stage_below, wires_of};
 ghost use Rattle.windings.specs.Rows.{IsDriven, MeasuresAt, SparesGateTwo, dac_numbers};
 
 use crate::row::{HEADING, Row};
@@ -40,10 +41,9 @@ fn words(dac: &Dac) -> (u16, u16)
 impl Rig {
     /// The PWM stage is wired alike for both gates, and nothing is shown yet.
     pub fn new(settings: Settings, wire: GateWiring) -> Rig
-        ensures made { (result.settings ≡ settings) × (result.pwm.one ≡ wire) ×
-            (result.pwm.two ≡ wire) }
+        ensures made { (result.settings ≡ settings) × (wires_of result.pwm ≡ (wire, wire)) }
         ensures dark { (dac_pairs result.dac ≡ zero_pairs) ×
-            (pwm_pairs result.pwm.below ≡ zero_pairs) }
+            (pwm_pairs (stage_below result.pwm) ≡ zero_pairs) }
     {
         let pwm = Wiring::new(Pwm::new(), wire, wire);
         Rig {
@@ -55,10 +55,10 @@ impl Rig {
 
     /// Steps the motor to a position, and measures what comes of it. Gate 2 is left alone.
     pub fn step(&mut self, position: i32) -> Row
-        ensures measured { MeasuresAt self.old.settings self.old.pwm.one position result }
+        ensures measured { MeasuresAt self.old.settings (wires_of self.old.pwm).0 position result }
         ensures driven { IsDriven self.old.settings position self.new.dac self.new.pwm }
         ensures kept { (self.new.settings ≡ self.old.settings) ×
-            (self.new.pwm.one ≡ self.old.pwm.one) × (self.new.pwm.two ≡ self.old.pwm.two) }
+            (wires_of self.new.pwm ≡ wires_of self.old.pwm) }
         ensures spared { SparesGateTwo self.old.dac self.new.dac self.old.pwm self.new.pwm }
     {
         let (a, b) = phases(self.settings.kind, self.settings.power, position);
@@ -79,7 +79,7 @@ impl Rig {
         ensures driven { OnOk result
             (IsDriven self.new.settings (pos 255) self.new.dac self.new.pwm) }
         ensures kept { (self.new.settings ≡ self.old.settings) ×
-            (self.new.pwm.one ≡ self.old.pwm.one) × (self.new.pwm.two ≡ self.old.pwm.two) }
+            (wires_of self.new.pwm ≡ wires_of self.old.pwm) }
         ensures spared { SparesGateTwo self.old.dac self.new.dac self.old.pwm self.new.pwm }
     {
         rt.println(HEADING)?;

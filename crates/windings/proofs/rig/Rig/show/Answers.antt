@@ -12,8 +12,7 @@ loop-position-preserved g c =
     let shows = λ (s : Settings) (p : ℤ). IsDriven s p c.step.new.self.dac c.step.new.self.pwm in
     record {
       settings = search rules;
-      wire = search rules;
-      other = search rules;
+      wires = search rules;
       spared = search rules;
       within = omega (arith, ints);
       driven = λ _. subst (λ s. shows s (next -ℤ pos 1)) (search rules) (subst (shows c.loop-position.self.settings) at c.step.ensures.driven);
