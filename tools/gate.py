@@ -29,7 +29,7 @@ def toward(v, goal, by):
 
 
 def fits(s, a, d):
-    """Whether the reach of s is at most d."""
+    """Whether the stopping distance of s is at most d."""
     while s > 0 and d >= 0:
         d, s = d - s, s - a
     return d >= 0
