@@ -161,6 +161,7 @@ impl Table {
         };
     }
 
+    /// A command by its code, as `Board::command`.
     pub fn command(&mut self, code: u8) -> Result<(), Refusal>
         requires { IsSoundTable self.old }
         ensures answer { answer_of_unit result ≡ answer (state_of self.old) (act_command code) }
@@ -192,6 +193,7 @@ impl Table {
         }
     }
 
+    /// A word that is written, as `Board::write`.
     pub fn write(&mut self, word: u16) -> Result<(), Refusal>
         requires { IsSoundTable self.old }
         ensures answer { answer_of_unit result ≡ answer (state_of self.old) (act_write word) }
@@ -213,6 +215,7 @@ impl Table {
         }
     }
 
+    /// A word that is read, as `Board::read`.
     pub fn read(&mut self) -> Result<u16, Refusal>
         requires { IsSoundTable self.old }
         ensures answer { answer_of_word result ≡ answer (state_of self.old) act_read }
@@ -240,6 +243,7 @@ impl Table {
         (phases_one, phases_two)
     }
 
+    /// Resets both gates but for their slip marks, the current gate and the port.
     pub fn reset(&mut self)
         requires { IsSoundTable self.old }
         ensures state { state_of self.new ≡ state_after_act (state_of self.old) act_reset }
@@ -266,6 +270,7 @@ impl Table {
         Ok(axis)
     }
 
+    /// Takes the slip of a gate back, and clears event bits by the word. Refused with `NoSlip` if its slip is not out.
     pub fn close(&mut self, axis: u8, word: u16) -> Result<(), Refusal>
         requires sound { IsSoundTable self.old }
         requires axis { axis < 2 }

@@ -66,6 +66,7 @@ impl<S: Stage + Drop> Desk<S> {
         &self.board
     }
 
+    /// A command by its code: `Board::command`.
     pub fn command(&mut self, code: u8) -> Result<(), Refusal>
         ensures { Performs S.Stage (act_command code) (answer_of_unit result) self.old.board
             self.new.board }
@@ -73,6 +74,7 @@ impl<S: Stage + Drop> Desk<S> {
         self.board.command(code)
     }
 
+    /// A word that is written: `Board::write`.
     pub fn write(&mut self, word: u16) -> Result<(), Refusal>
         ensures { Performs S.Stage (act_write word) (answer_of_unit result) self.old.board
             self.new.board }
@@ -80,12 +82,14 @@ impl<S: Stage + Drop> Desk<S> {
         self.board.write(word)
     }
 
+    /// A word that is read: `Board::read`.
     pub fn read(&mut self) -> Result<u16, Refusal>
         ensures { Performs S.Stage act_read (answer_of_word result) self.old.board self.new.board }
     {
         self.board.read()
     }
 
+    /// One cycle of both gates: `Board::cycle`.
     pub fn cycle(&mut self, one: Inputs, two: Inputs)
         ensures { Performs S.Stage (act_cycle one two) answer_done self.old.board self.new.board }
     {
@@ -101,6 +105,7 @@ impl<S: Stage + Drop> Desk<S> {
         }
     }
 
+    /// The reset pin: `Board::reset`. The slips are kept.
     pub fn reset(&mut self)
         ensures { Performs S.Stage act_reset answer_done self.old.board self.new.board }
     {

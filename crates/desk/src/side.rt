@@ -1,4 +1,4 @@
-// Which of the two boards of a host is meant.
+/// Which of the two boards of a host is meant.
 #[derive(Clone, Copy, Debug, PartialEq, Eq)]
 pub enum Side {
     A,

@@ -127,7 +127,7 @@ abbrev pub Holds : Figure → Type 0
 Holds (figure_move acts xs) = journey acts (length xs) ≡ (map (λ a. outcome_accepted) acts, xs)
 Holds (figure_phase position power p) =
     gate_phases (state_after_cycle (state_after_acts (state_after []) (set_phase_2 ++ set_mtr_cmd power ++ set_actl_pos position))).one ≡ p
-Holds (figure_pulse x r) = (p : Pairs) → pairs_after_show pwm.STEP p 1 x x ≡ record { one = (r, r); two = p.two }
+Holds (figure_pulse x r) = (p : Pairs) → pairs_after_show pwm.STEP p 1 x x ≡ record p { one = (r, r) }
 Holds (figure_answers acts xs) = outcomes (state_after []) acts ≡ xs
 
 abbrev pub AllHold : List Figure → Type 0

@@ -22,6 +22,7 @@ fn kept(step: u8, x: i32) -> i16
 }
 
 impl<const N: u8> Plate<N> {
+    /// A new plate, which shows 0, 0 for both gates.
     pub fn new() -> Plate<N>
         ensures { plate_pairs result.one result.two ≡ zero_pairs }
     {

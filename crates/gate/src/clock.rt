@@ -8,6 +8,7 @@ pub struct Clock {
 }
 
 impl Clock {
+    /// Counts a cycle.
     pub fn tick(&mut self)
         ensures { self.new ≡ clock_tick self.old }
     {

@@ -1,6 +1,7 @@
 ghost use Rattle.std.specs.Prelude.{◌≡◌, ◌<◌};
 ghost use Rattle.gate.specs.Events.{event_bits, bit, place, no_events, events_word, keep, has_bit_in, weight};
 
+/// What a gate notes by a bit, each with its place.
 #[derive(Clone, Copy, PartialEq, Eq, Debug)]
 pub enum Event {
     MotionComplete = 0,
@@ -47,6 +48,7 @@ fn holds(word: u16, event: Event) -> bool
 }
 
 impl Events {
+    /// No bit set.
     pub fn none() -> Events
         ensures { result ≡ no_events }
     {

@@ -10,14 +10,14 @@ use crate::profile::Profile;
 use motion::course::MICROSTEP;
 use wave::phases::MotorKind;
 
-// The motor powers, from 0 to 32,767.
+/// The motor powers, from 0 to 32,767.
 #[derive(Clone, Copy, PartialEq, Eq, Debug)]
 pub struct Powers {
     pub buffered: u16,
     pub active: u16,
 }
 
-// How a gate moves.
+/// How a gate moves.
 #[derive(Clone, Copy, PartialEq, Eq, Debug)]
 pub struct Motion {
     // the target position, in 1/65,536 microstep
@@ -29,14 +29,14 @@ pub struct Motion {
     pub rested: bool,
 }
 
-// Whether each limit switch can trip.
+/// Whether each limit switch can trip.
 #[derive(Clone, Copy, PartialEq, Eq, Debug)]
 pub struct Detectors {
     pub positive: bool,
     pub negative: bool,
 }
 
-// What a breakpoint waits for.
+/// What a breakpoint waits for.
 #[derive(Clone, Copy, PartialEq, Eq, Debug)]
 pub enum BreakMode {
     Off,
@@ -49,6 +49,7 @@ pub enum BreakMode {
     External,
 }
 
+/// The breakpoint of a gate.
 #[derive(Clone, Copy, PartialEq, Eq, Debug)]
 pub struct Breakpoint {
     pub mode: BreakMode,

@@ -1,4 +1,4 @@
-// What a cycle brings to one gate: the encoder's count, and whether each switch is active.
+/// What a cycle brings to one gate: the encoder's count, and whether each switch is active.
 #[derive(Clone, Copy, PartialEq, Eq, Debug)]
 pub struct Inputs {
     pub count: i16,

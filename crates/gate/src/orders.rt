@@ -15,34 +15,49 @@ use wave::phases::MotorKind;
 /// What a gate can be told with no value.
 #[derive(Clone, Copy, PartialEq, Eq, Debug)]
 pub enum Order {
+    /// Loads the mode.
     Mode(ProfileMode),
+    /// Loads velocity 0.
     Stop,
+    /// Latches.
     Update,
+    /// Whether a breakpoint that is met latches.
     Auto(bool),
+    /// The breakpoint's mode.
     Break(BreakMode),
+    /// The kind of motor.
     Motor(MotorKind),
 }
 
 /// What a gate can be told with a word.
 #[derive(Clone, Copy, PartialEq, Eq, Debug)]
 pub enum WordOrder {
+    /// Loads the power, from 0 to 32,767.
     BufferedPower,
+    /// Loads the power and makes it active, from 0 to 32,767.
     Power,
+    /// Clears the event bits whose places hold 0 in the word.
     ClearEvents,
+    /// Sets the interrupt mask.
     Mask,
 }
 
 /// What a gate can be told with a number of two words.
 #[derive(Clone, Copy, PartialEq, Eq, Debug)]
 pub enum LongOrder {
+    /// Loads the destination: in microsteps, from -2^30 to 2^30 - 1.
     Destination,
+    /// Loads the velocity: in 1/65,536 microstep a cycle, from 0 to 2^30 - 1.
     Velocity,
+    /// Loads the acceleration: in 1/65,536 microstep a cycle, each cycle, from -2^30 to 2^30 - 1, but not 0.
     Acceleration,
+    /// Sets the breakpoint's point: a time in cycles, or a position; any 32 bits.
     Point,
+    /// Sets target and actual position, in microsteps, from -2^30 to 2^30 - 1, and halts the gate there.
     Actual,
 }
 
-/// A value outside its range. It is never printed: a board answers it with a refusal of its own.
+/// A value outside its range.
 #[derive(Clone, Copy, PartialEq, Eq, Debug)]
 pub struct OutOfRange;
 
@@ -88,6 +103,7 @@ fn acceleration(value: u32) -> Result<i32, OutOfRange>
 }
 
 impl Gate {
+    /// Runs an order that has no value: docs/GATE.md lists them. None is refused.
     pub fn run(&mut self, order: Order)
         ensures is { self.new ≡ run order self.old }
         ensures sound { IsSound self.old → IsSound self.new }

@@ -13,16 +13,24 @@ const AXIS_PLACE: u8 = 12;
 /// What a gate can be asked with an answer of two words.
 #[derive(Clone, Copy, PartialEq, Eq, Debug)]
 pub enum Query {
+    /// The buffered destination, in microsteps.
     Destination,
+    /// The buffered velocity, in 1/65,536 microstep a cycle; unsigned.
     Velocity,
+    /// The buffered acceleration, in 1/65,536 microstep a cycle, each cycle.
     Acceleration,
+    /// The target position, rounded down to microsteps.
     TargetPosition,
+    /// The velocity, in 1/65,536 microstep a cycle.
     TargetVelocity,
+    /// The encoder's position, in its counts.
     ActualPosition,
+    /// The cycles since the reset, modulo 2^32; unsigned.
     ClockTime,
 }
 
 impl Gate {
+    /// The 32 bits that answer a query, in two's complement where the number is signed.
     pub fn answer(&self, query: Query) -> u32
         requires { IsSound self.now }
         ensures { result ≡ query_answer query self.now }

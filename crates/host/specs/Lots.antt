@@ -12,8 +12,7 @@ first_noted None m = Some m
 
 -- the first cycle in which the gate moved, the first in which it stood again, and its target position
 abbrev pub outcome_after : Outcome → Gate → Outcome
-outcome_after o g = record {
-  lot = o.lot;
+outcome_after o g = record o {
   set_off = cond (unsigned_abs g.motion.velocity == 0) o.set_off (first_noted o.set_off (time g.clock));
   arrived =
       cond (unsigned_abs g.motion.velocity == 0) (cond (is_some o.set_off) (first_noted o.arrived (time g.clock)) o.arrived) o.arrived;

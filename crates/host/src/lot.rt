@@ -11,15 +11,20 @@ use std::fmt;
 /// A lot of olives: where its gate is sent, and the time at which a breakpoint latches that.
 #[derive(Clone, Copy, Debug, PartialEq, Eq)]
 pub struct Lot {
+    // in microsteps
     pub destination: i32,
+    // in 1/65,536 microstep a cycle
     pub velocity: u32,
+    // in 1/65,536 microstep a cycle, each cycle
     pub acceleration: u32,
+    // the cycle in which it is latched
     pub start: u32,
 }
 
 /// The cycles that a lot is given.
 pub const CYCLES: u32 = 160;
 
+/// The lots of gate 1.
 pub const LOTS_ONE: [Lot; 3] = [
     Lot {
         destination: 1200,
@@ -41,6 +46,7 @@ pub const LOTS_ONE: [Lot; 3] = [
     },
 ];
 
+/// The lots of gate 2.
 pub const LOTS_TWO: [Lot; 3] = [
     Lot {
         destination: 700,
@@ -73,6 +79,7 @@ pub struct Outcome {
 }
 
 impl Outcome {
+    /// A lot of which nothing is noted yet.
     pub fn new(lot: Lot) -> Outcome
         ensures { result ≡ record { lot = lot; set_off = None; arrived = None; target = pos 0 } }
     {
@@ -122,6 +129,7 @@ fn write_cycles<W: fmt::Write>(
     write_cycle(f, arrived)
 }
 
+/// The heading of the rows.
 pub const HEADING: &str = "destination  velocity  acceleration  latched   moves    rests    target";
 
 impl fmt::Display for Lot {

@@ -75,7 +75,7 @@ fn wrap(z: i64, half: i64) -> i64
     ((z + half).cast_unsigned() % turn).cast_signed() - half
 }
 
-/// The target position a cycle later, and whether it crossed an end of its range: both always hold, as of `overflowing_add`.
+/// The target position a cycle later, and whether it crossed an end of its range.
 pub fn next_target(p: i64, v: i32) -> (i64, bool)
     requires position { IsWithin (2 ^ 46) p }
     requires speed { unsigned_abs v < 2 ^ 30 }

@@ -2,7 +2,7 @@ use crate::course::{cruise, distance, microsteps, next_actual, next_target, towa
 use crate::rate::Rate;
 
 #[test]
-fn reaches(rt: HostRuntime) {
+fn stopping_distances(rt: HostRuntime) {
     assert_eq!(rt; Rate { size: 16_384 }.stopping_distance(32_768), 49_152);
     assert_eq!(rt; Rate { size: 65_535 }.stopping_distance(65_535), 65_535);
     assert_eq!(rt;

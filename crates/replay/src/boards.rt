@@ -11,8 +11,7 @@ use desk::desk::Desk;
 use desk::side::Side;
 use stage::Stage;
 
-/// The two boards that a list is played against, each at its desk. The slips that are left when they go are closed. A script's boards keep
-/// the one that a line goes to besides; an entry of a list names its own.
+/// The two boards that a list is played against, each at its desk. The slips that are left when they go are closed.
 pub struct Boards<S: Stage + Drop, R: Stage + Drop> {
     pub a: Desk<S>,
     pub b: Desk<R>,

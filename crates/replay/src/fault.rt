@@ -1,4 +1,4 @@
-// Why a list was not played to its end, by the number that is returned for it.
+/// Why a list was not played to its end, by the number that is returned for it.
 #[derive(Clone, Copy, PartialEq, Debug)]
 pub enum Fault {
     // a byte that no entry begins with

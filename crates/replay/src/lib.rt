@@ -55,6 +55,7 @@ fn replay<S: Stage + Drop, R: Stage + Drop>(
     (out.len, played)
 }
 
+/// Plays a list of acts on two new boards and writes the answers; what the bytes and the number mean stands in `docs/REPLAY.md`.
 #[unsafe(no_mangle)]
 pub extern "C" fn two_gate_replay(list: &[u8], out: &mut [u8]) -> u32
     ensures { Returns list.now out.old out.new result }

@@ -18,6 +18,7 @@ pub trait Wires: Stage {
 
     ghost codes: { Self → Codes };
 
+    /// All four codes: of gate 1, phases A and B, and of gate 2.
     fn codes(&self) -> Codes
         ensures is { result ≡ codes self.now }
         ensures stands { StandsFor (Self.pairs self.now) result };

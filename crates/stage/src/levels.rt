@@ -8,17 +8,18 @@ use crate::Stage;
 
 /// The form in which a make keeps a number on its wires.
 pub trait Form: Clone + Copy {
-    // What every number kept is a multiple of.
+    /// What every number kept is a multiple of.
     const STEP: u8;
 
     ghost STEP: { ℕ };
 
     ghost number_of: { Self → ℤ };
 
-    // What the step leaves of a number.
+    /// What the step leaves of a number.
     fn keep(x: i32) -> Self
         ensures { number_of result ≡ quantize STEP x };
 
+    /// The number that a kept value stands for.
     fn number(self) -> i32
         ensures is { result ≡ number_of self }
         ensures bound { unsigned_abs result ≤ 65536 };
@@ -34,6 +35,7 @@ pub struct Levels<F: Form> {
 }
 
 impl<F: Form> Levels<F> {
+    /// A new stage, which shows 0, 0 for both gates.
     #[tactic(auto, using(crate::proofs::Quantizing::quantize_zero))]
     pub fn new() -> Levels<F>
         ensures { levels F.Form.number_of result.one result.two ≡ zero_pairs }

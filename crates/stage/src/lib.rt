@@ -15,13 +15,14 @@ pub mod wiring;
 /// A stage stands for one pair of phase numbers, A and B, for each of the gates 1 and 2. A gate is named by its number, since every other
 /// number has its answer too.
 pub trait Stage {
-    // What every number shown is a multiple of.
+    /// What every number shown is a multiple of.
     const STEP: u8;
 
     ghost STEP: { ℕ };
 
     ghost pairs: { Self → Pairs };
 
+    /// The step, from 1 to 128.
     fn step_size() -> u8
         ensures is { result ≡ STEP }
         ensures range { (1 ≤ result) × (result ≤ 128) }
@@ -29,11 +30,11 @@ pub trait Stage {
         Self::STEP
     }
 
-    // Shows two numbers on a gate; a gate other than 1 or 2 changes nothing.
+    /// Shows two numbers on a gate; a gate other than 1 or 2 changes nothing.
     fn show(&mut self, gate: u8, a: i32, b: i32)
         ensures { pairs self.new ≡ pairs_after_show STEP (pairs self.old) gate a b };
 
-    // The pair that a gate shows; (0, 0) for a gate other than 1 or 2.
+    /// The pair that a gate shows; (0, 0) for a gate other than 1 or 2.
     fn pair(&self, gate: u8) -> (i32, i32)
         ensures is { result ≡ pair_of (pairs self.now) gate }
         ensures bounded { IsBounded result };

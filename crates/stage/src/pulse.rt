@@ -1,4 +1,4 @@
-// What a PWM phase has on its two lines.
+/// What a PWM phase has on its two lines.
 #[derive(Clone, Copy, PartialEq, Eq, Debug)]
 pub struct Pulse {
     pub magnitude: u8,

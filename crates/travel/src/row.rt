@@ -17,6 +17,7 @@ pub struct Row {
     pub moving: bool,
 }
 
+/// The heading of the lines.
 pub const HEADING: &str = "cycle |    velocity       target | phase A  phase B | gate";
 
 impl Row {

@@ -11,6 +11,7 @@ const FULL_SCALE: u64 = 32_767;
 // Full scale times this is 2^45 - 1: to divide by full scale, it is quicker to multiply one more by this and shift.
 const RECIPROCAL: u64 = ((1 << 45) - 1) / FULL_SCALE;
 
+/// The kind of motor, by how far phase B is ahead of phase A.
 #[derive(Clone, Copy, PartialEq, Eq, Debug)]
 pub enum MotorKind {
     TwoPhase,

@@ -18,6 +18,7 @@ pub struct Row {
     pub pulses: (Pulse, Pulse),
 }
 
+/// The heading of the lines.
 pub const HEADING: &str =
     "pos | phase A  phase B |  DAC A   DAC B  words       |  PWM A   PWM B  lines";
 

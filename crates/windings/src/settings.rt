@@ -41,6 +41,7 @@ pub fn power_from(word: &str) -> Option<u16>
 }
 
 impl Settings {
+    /// The settings that two words write, or the first of them that is not taken.
     pub fn read(kind: &str, power: &str) -> Result<Settings, Fault>
         ensures { ReadsSettingsWords kind.now power.now result }
     {

@@ -8,7 +8,7 @@ use crate::board::Board;
 use crate::table::Table;
 use stage::Stage;
 
-/// How far one gate is alike on two boards; both parts always hold.
+/// How far one gate is alike on two boards.
 #[derive(Clone, Copy, PartialEq, Eq, Debug)]
 pub struct Comparison {
     /// Whether its records are equal in every field.
