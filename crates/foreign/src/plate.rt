@@ -15,7 +15,7 @@ pub struct Plate<const N: u8> {
     two: (i16, i16),
 }
 
-fn kept(step: u8, x: i32) -> i16
+fn narrow(step: u8, x: i32) -> i16
     ensures { result ≡ quantize step x }
 {
     quantize(step, x) as i16
@@ -50,8 +50,8 @@ impl<const N: u8> Stage for Plate<N> {
 
     fn show(&mut self, gate: u8, a: i32, b: i32) {
         match gate {
-            1 => self.one = (kept(Self::STEP, a), kept(Self::STEP, b)),
-            2 => self.two = (kept(Self::STEP, a), kept(Self::STEP, b)),
+            1 => self.one = (narrow(Self::STEP, a), narrow(Self::STEP, b)),
+            2 => self.two = (narrow(Self::STEP, a), narrow(Self::STEP, b)),
             _ => {}
         }
     }

@@ -11,7 +11,7 @@ use std::process::Abort;
 use std::test::Fail;
 
 // Gate 1 at 129 microsteps, with a power of 100: the phases are -2 and -99.
-fn placed<S: Stage + Drop>(stage: S) -> Result<Board<S>, Refusal> {
+fn placed_board<S: Stage + Drop>(stage: S) -> Result<Board<S>, Refusal> {
     let mut board = Board::new(stage);
     board.command(0x4d)?;
     board.write(0)?;
@@ -23,7 +23,7 @@ fn placed<S: Stage + Drop>(stage: S) -> Result<Board<S>, Refusal> {
 }
 
 fn shows<const N: u8>(rt: &impl Abort, expected: (i32, i32)) -> Result<(), Fail> {
-    let board = placed(Plate::<N>::new())?;
+    let board = placed_board(Plate::<N>::new())?;
     assert_eq!(rt; board.pair(1), expected);
     assert_eq!(rt; board.pair(2), (0, 0));
     assert_eq!(rt; board.pair(3), (0, 0));
@@ -41,12 +41,12 @@ fn foreign_makes(rt: HostRuntime) -> Result<(), Fail> {
 
 #[test]
 fn compared_with_a_dac(rt: HostRuntime) -> Result<(), Fail> {
-    let dac = placed(Dac::new())?;
+    let dac = placed_board(Dac::new())?;
     let crossed = GateWiring {
         exchanged: true,
         negated: true,
     };
-    let wired = placed(Wiring::new(Plate::<64>::new(), crossed, crossed))?;
+    let wired = placed_board(Wiring::new(Plate::<64>::new(), crossed, crossed))?;
     let found = compare(&dac, &wired, 1).ok_or("gate 1 is a gate")?;
     assert!(rt; found.same);
     assert_eq!(rt; found.apart, (2, 35));

@@ -15,7 +15,7 @@ pub const BOTH: Inputs = Inputs {
 };
 
 /// A fresh gate with these registers active.
-pub fn sent(mode: ProfileMode, destination: i32, velocity: u32, acceleration: i32) -> Gate
+pub fn sent_gate(mode: ProfileMode, destination: i32, velocity: u32, acceleration: i32) -> Gate
     ensures { IsSound result }
 {
     let mut gate = Gate::fresh(false);
@@ -28,7 +28,7 @@ pub fn sent(mode: ProfileMode, destination: i32, velocity: u32, acceleration: i3
 }
 
 /// Velocity, target position in 1/65,536 microstep, and status word.
-pub fn seen(gate: &Gate) -> (i32, i64, u16)
+pub fn look(gate: &Gate) -> (i32, i64, u16)
     requires { IsSound gate.now }
 {
     (gate.motion.velocity, gate.motion.target, gate.status(0))
@@ -40,7 +40,7 @@ pub fn follows(rt: &impl Abort, mut gate: Gate, rows: &[(i32, i64, u16)]) -> Res
 {
     for row in rows {
         let _ = gate.cycle(Inputs::STILL);
-        assert_eq!(rt; seen(&gate), *row);
+        assert_eq!(rt; look(&gate), *row);
     }
     Ok(())
 }
@@ -49,7 +49,7 @@ pub fn follows(rt: &impl Abort, mut gate: Gate, rows: &[(i32, i64, u16)]) -> Res
 pub fn sent_one_step() -> Gate
     ensures { IsSound result }
 {
-    sent(ProfileMode::Trapezoidal, 1, 40_000, 16_384)
+    sent_gate(ProfileMode::Trapezoidal, 1, 40_000, 16_384)
 }
 
 /// Holds that move to its rows, with this status word at rest.
@@ -96,6 +96,6 @@ pub fn travel(mut gate: Gate, cycles: u32) -> Summary
     Summary {
         checksum,
         complete,
-        end: seen(&gate),
+        end: look(&gate),
     }
 }

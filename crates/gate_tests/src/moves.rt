@@ -1,4 +1,4 @@
-use crate::drive::{Summary, follows, follows_one_step, sent, sent_one_step, travel};
+use crate::drive::{Summary, follows, follows_one_step, sent_gate, sent_one_step, travel};
 use gate::orders::{LongOrder, Order};
 use gate::profile::ProfileMode;
 use std::test::Fail;
@@ -10,7 +10,7 @@ fn one_step(rt: HostRuntime) -> Result<(), Fail> {
 
 #[test]
 fn uneven_step(rt: HostRuntime) -> Result<(), Fail> {
-    let gate = sent(ProfileMode::Trapezoidal, 1, 65_536, 65_535);
+    let gate = sent_gate(ProfileMode::Trapezoidal, 1, 65_536, 65_535);
     follows(
         &rt,
         gate,
@@ -20,7 +20,7 @@ fn uneven_step(rt: HostRuntime) -> Result<(), Fail> {
 
 #[test]
 fn cruise_down(rt: HostRuntime) -> Result<(), Fail> {
-    let gate = sent(ProfileMode::Velocity, 0, 20_000, -16_384);
+    let gate = sent_gate(ProfileMode::Velocity, 0, 20_000, -16_384);
     follows(
         &rt,
         gate,
@@ -34,7 +34,7 @@ fn cruise_down(rt: HostRuntime) -> Result<(), Fail> {
 
 #[test]
 fn wrap_around(rt: HostRuntime) -> Result<(), Fail> {
-    let mut gate = sent(ProfileMode::Velocity, 0, 65_536, 65_536);
+    let mut gate = sent_gate(ProfileMode::Velocity, 0, 65_536, 65_536);
     let _ = gate.run_long(LongOrder::Actual, 1_073_741_822);
     gate.run(Order::Update);
     follows(
@@ -49,7 +49,7 @@ fn wrap_around(rt: HostRuntime) -> Result<(), Fail> {
 
 #[test]
 fn long_moves(rt: HostRuntime) {
-    let gate = sent(ProfileMode::Trapezoidal, -12_000, 3_000_000, 40_001);
+    let gate = sent_gate(ProfileMode::Trapezoidal, -12_000, 3_000_000, 40_001);
     assert_eq!(rt;
         travel(gate, 400),
         Summary {
@@ -58,7 +58,7 @@ fn long_moves(rt: HostRuntime) {
             end: (0, -786_432_000, 1),
         }
     );
-    let gate = sent(ProfileMode::Trapezoidal, 2_000, 1_073_741_823, -30_001);
+    let gate = sent_gate(ProfileMode::Trapezoidal, 2_000, 1_073_741_823, -30_001);
     assert_eq!(rt;
         travel(gate, 400),
         Summary {

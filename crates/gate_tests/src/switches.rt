@@ -1,4 +1,4 @@
-use crate::drive::{BOTH, follows_one_step, seen, sent, sent_one_step};
+use crate::drive::{BOTH, follows_one_step, look, sent_gate, sent_one_step};
 use gate::gate::BreakMode;
 use gate::inputs::Inputs;
 use gate::orders::{LongOrder, Order, WordOrder};
@@ -9,18 +9,18 @@ use std::test::Fail;
 // armed.
 #[test]
 fn limits(rt: HostRuntime) {
-    let mut gate = sent(ProfileMode::Trapezoidal, 1000, 1_310_720, 65_536);
+    let mut gate = sent_gate(ProfileMode::Trapezoidal, 1000, 1_310_720, 65_536);
     let _ = gate.cycle(Inputs::STILL);
     let _ = gate.cycle(BOTH);
-    assert_eq!(rt; seen(&gate), (0, 65_536, 33));
+    assert_eq!(rt; look(&gate), (0, 65_536, 33));
     assert!(rt; !gate.detectors.positive && gate.detectors.negative);
     gate.run(Order::Update);
     assert!(rt; gate.motion.halted);
     let _ = gate.cycle(BOTH);
-    assert_eq!(rt; seen(&gate), (0, 65_536, 33));
+    assert_eq!(rt; look(&gate), (0, 65_536, 33));
     let _ = gate.run_word(WordOrder::ClearEvents, 0);
     let _ = gate.cycle(BOTH);
-    assert_eq!(rt; seen(&gate), (0, 65_536, 64));
+    assert_eq!(rt; look(&gate), (0, 65_536, 64));
     assert!(rt; !gate.detectors.negative);
 }
 
@@ -40,6 +40,6 @@ fn breaks_in_the_first_cycle(rt: HostRuntime) {
     let _ = gate.run_word(WordOrder::Mask, 4);
     assert!(rt; !gate.calls());
     let _ = gate.cycle(Inputs::STILL);
-    assert_eq!(rt; seen(&gate), (16_384, 16_384, 1028));
+    assert_eq!(rt; look(&gate), (16_384, 16_384, 1028));
     assert!(rt; gate.calls());
 }

@@ -100,7 +100,7 @@ fn show_usage(rt: &HostRuntime) -> anyhow::Result<()> {
     Ok(())
 }
 
-fn not_taken(rt: &HostRuntime) -> anyhow::Result<()> {
+fn refuse_words(rt: &HostRuntime) -> anyhow::Result<()> {
     let _told = eprintln!(rt; "{USAGE}");
     Err(anyhow!("these arguments are not taken"))
 }
@@ -110,20 +110,20 @@ fn with_makes(rt: &HostRuntime, makes: Makes, words: &[String]) -> anyhow::Resul
         [] => from_input(rt, makes),
         [file] => match file.as_str() {
             "-" => from_input(rt, makes),
-            option if option.starts_with("--") => not_taken(rt),
+            option if option.starts_with("--") => refuse_words(rt),
             path => from_file(rt, makes, path),
         },
-        _ => not_taken(rt),
+        _ => refuse_words(rt),
     }
 }
 
 // Two boards, by the arguments behind their stages.
 fn with_stages(rt: &HostRuntime, words: &[String]) -> anyhow::Result<()> {
     let [names, rest @ ..] = words else {
-        return not_taken(rt);
+        return refuse_words(rt);
     };
     let Ok(makes) = names.as_str().parse() else {
-        return not_taken(rt);
+        return refuse_words(rt);
     };
     with_makes(rt, makes, rest)
 }

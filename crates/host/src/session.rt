@@ -8,7 +8,7 @@ use script::reply::Answer;
 use stage::codes::Wires;
 
 // A line of a script without its comment.
-fn uncommented(line: &str) -> &str
+fn text_before_comment(line: &str) -> &str
     ensures { result.now ≡ text_before_comment line.now }
 {
     line.split_once('#')
@@ -26,7 +26,9 @@ fn play_line<S: Wires + Drop, R: Wires + Drop>(
         (λ readable. PlaysText S.Stage R.Stage S.codes R.codes text.now readable boards.old
         boards.new) }
 {
-    let words: Vec<&str> = uncommented(text).split_whitespace().collect(rt.alloc())?;
+    let words: Vec<&str> = text_before_comment(text)
+        .split_whitespace()
+        .collect(rt.alloc())?;
     match Line::try_from(words.as_slice()) {
         Ok(line) => {
             if let Some(answer) = boards.play(line).transpose() {

@@ -50,7 +50,7 @@ fn code(text: &str) -> Option<u8>
 {
     match command_named(text) {
         Some(command) => Some(u8::from(command)),
-        None => fitting(text),
+        None => fitting_number(text),
     }
 }
 
@@ -68,7 +68,7 @@ fn long(text: &str) -> Option<u32>
 }
 
 // The number that a text writes, where it fits its type.
-fn fitting<N: TryFrom<i64>>(text: &str) -> Option<N>
+fn fitting_number<N: TryFrom<i64>>(text: &str) -> Option<N>
 where
     N::Error: Drop,
     ensures { WritesFitting N.try_from_gives text.now result }
@@ -98,7 +98,7 @@ fn holds(text: &str, letter: char) -> bool
 fn inputs(number: &str, letters: &str) -> Option<Inputs>
     ensures { Finds (IsInputs number.now letters.now) result }
 {
-    let count = fitting(number)?;
+    let count = fitting_number(number)?;
     if letters != "-"
         && !letters
             .bytes()
@@ -115,7 +115,7 @@ fn inputs(number: &str, letters: &str) -> Option<Inputs>
 }
 
 // The only one of the words.
-fn only<'a>(words: &[&'a str]) -> Option<&'a str>
+fn only_one<'a>(words: &[&'a str]) -> Option<&'a str>
     ensures { Finds (λ word. words.now ≡ word ∷ []) result }
 {
     match words {
@@ -128,16 +128,16 @@ fn only<'a>(words: &[&'a str]) -> Option<&'a str>
 fn only_word(words: &[&str]) -> Option<u16>
     ensures { Finds (λ n. HasOneWord (λ text. WritesWord text n) words.now) result }
 {
-    word(only(words)?)
+    word(only_one(words)?)
 }
 
 fn only_long(words: &[&str]) -> Option<u32>
     ensures { Finds (λ n. HasOneWord (λ text. WritesLong text n) words.now) result }
 {
-    long(only(words)?)
+    long(only_one(words)?)
 }
 
-fn alone(words: &[&str], line: Line) -> Option<Line>
+fn line_alone(words: &[&str], line: Line) -> Option<Line>
     ensures { SomeIff result (words.now ≡ []) line }
 {
     words.is_empty().then_some(line)
@@ -146,7 +146,7 @@ fn alone(words: &[&str], line: Line) -> Option<Line>
 fn board(words: &[&str]) -> Option<Line>
     ensures { Finds (WritesLine (codes "board") words.now) result }
 {
-    Some(Line::Board(side(only(words)?)?))
+    Some(Line::Board(side(only_one(words)?)?))
 }
 
 fn write(words: &[&str]) -> Option<Line>
@@ -168,13 +168,13 @@ fn cycle(words: &[&str]) -> Option<Line>
 fn command(words: &[&str]) -> Option<Line>
     ensures { Finds (WritesLine (codes "command") words.now) result }
 {
-    Some(Line::Command(code(only(words)?)?))
+    Some(Line::Command(code(only_one(words)?)?))
 }
 
 fn run(words: &[&str]) -> Option<Line>
     ensures { Finds (WritesLine (codes "run") words.now) result }
 {
-    Some(Line::Run(fitting(only(words)?)?))
+    Some(Line::Run(fitting_number(only_one(words)?)?))
 }
 
 fn close(words: &[&str]) -> Option<Line>
@@ -226,14 +226,14 @@ impl<'a> TryFrom<&'a [&'a str]> for Line {
             "board" => board(rest).ok_or(Expected::Board),
             "command" => command(rest).ok_or(Expected::Command),
             "write" => write(rest).ok_or(Expected::Word),
-            "read" => alone(rest, Line::Read).ok_or(Expected::Alone),
+            "read" => line_alone(rest, Line::Read).ok_or(Expected::Alone),
             "cycle" => cycle(rest).ok_or(Expected::Cycle),
             "run" => run(rest).ok_or(Expected::Run),
-            "reset" => alone(rest, Line::Reset).ok_or(Expected::Alone),
-            "take" => alone(rest, Line::Take).ok_or(Expected::Alone),
+            "reset" => line_alone(rest, Line::Reset).ok_or(Expected::Alone),
+            "take" => line_alone(rest, Line::Take).ok_or(Expected::Alone),
             "close" => close(rest).ok_or(Expected::Close),
-            "pairs" => alone(rest, Line::Pairs).ok_or(Expected::Alone),
-            "wires" => alone(rest, Line::Wires).ok_or(Expected::Alone),
+            "pairs" => line_alone(rest, Line::Pairs).ok_or(Expected::Alone),
+            "wires" => line_alone(rest, Line::Wires).ok_or(Expected::Alone),
             name => {
                 let command = command_named(name).ok_or(Expected::Line)?;
                 Ok(Line::Packet(Packet::read(command, rest)?))

@@ -14,7 +14,7 @@ use stage::Stage;
 use stage::codes::Wires;
 
 // The number that 32 bits stand for in an answer: a velocity register and the clock are unsigned.
-fn signed(query: Query, bits: u32) -> i64
+fn query_value(query: Query, bits: u32) -> i64
     ensures { result ≡ query_value query bits }
 {
     match query {
@@ -28,7 +28,7 @@ fn signed(query: Query, bits: u32) -> i64
 }
 
 // The packet of a command that takes no word.
-fn plain<S: Stage + Drop>(desk: &mut Desk<S>, command: Command) -> Result<Reply, Refusal>
+fn play_plain<S: Stage + Drop>(desk: &mut Desk<S>, command: Command) -> Result<Reply, Refusal>
     ensures { (n : ℕ) × (code_table n ≡ Some command) ×
         PlaysPlain S.Stage command n result (board_of desk.old) (board_of desk.new) }
 {
@@ -41,7 +41,7 @@ fn plain<S: Stage + Drop>(desk: &mut Desk<S>, command: Command) -> Result<Reply,
         Command::Ask(query) => {
             let [high, low]: [u16; 2] = fetch(desk, code)?;
             let bits = u32::from(high) * 65_536 + u32::from(low);
-            Ok(Reply::Value(signed(query, bits)))
+            Ok(Reply::Value(query_value(query, bits)))
         }
         _ => {
             desk.command(code)?;
@@ -56,7 +56,7 @@ pub fn play_packet<S: Stage + Drop>(desk: &mut Desk<S>, packet: Packet) -> Resul
         (board_of desk.old) (board_of desk.new) }
 {
     match packet {
-        Packet::Plain(command) => return plain(desk, command),
+        Packet::Plain(command) => return play_plain(desk, command),
         Packet::Word(command, word) => send(desk, u8::from(command), &[word])?,
         Packet::Long(command, value) => {
             let words = [(value / 65_536) as u16, (value % 65_536) as u16];

@@ -31,7 +31,11 @@ fn same_record(a: &Table, b: &Table, axis: u8) -> bool
     a.gates[axis as usize].same(&b.gates[axis as usize])
 }
 
-fn compared<S: Stage + Drop, R: Stage + Drop>(a: &Board<S>, b: &Board<R>, gate: u8) -> Comparison
+fn comparison_of<S: Stage + Drop, R: Stage + Drop>(
+    a: &Board<S>,
+    b: &Board<R>,
+    gate: u8,
+) -> Comparison
     requires { is_gate gate ≡ true }
     ensures { IsComparison S.Stage a.now R.Stage b.now (gate - 1) result }
 {
@@ -57,5 +61,5 @@ pub fn compare<S: Stage + Drop, R: Stage + Drop>(
     ensures booked_b { FollowsBook R.Stage b.now }
     ensures attributed { EachEntryBelongs }
 {
-    matches!(gate, 1 | 2).then(|| compared(a, b, gate))
+    matches!(gate, 1 | 2).then(|| comparison_of(a, b, gate))
 }

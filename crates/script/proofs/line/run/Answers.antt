@@ -4,7 +4,7 @@ use Rattle.script.proofs.NumberLemmas.{unsigned_fitted}
 use Rattle.script.proofs.Unread.{no_run, none_of_one}
 use Rattle.script.proofs.line.run.Goals as goal
 
-pub returns-in_err-fitting : goal.returns-in_err-fitting
-returns-in_err-fitting c =
-    let none = unsigned_fitted _ 32 c.in_ok-only.field-0.now None c.in_err-fitting.ensures in
-    rw c.from_residual-in_err-fitting.ensures (no_run c.args.words.now (λ n. none_of_one (λ t. (n < 2 ^ 32) × WritesNumber t (Some (pos n))) c.args.words.now c.in_ok-only.field-0 (search rules) (none n)))
+pub returns-in_err-fitting_number : goal.returns-in_err-fitting_number
+returns-in_err-fitting_number c =
+    let none = unsigned_fitted _ 32 c.in_ok-only_one.field-0.now None c.in_err-fitting_number.ensures in
+    rw c.from_residual-in_err-fitting_number.ensures (no_run c.args.words.now (λ n. none_of_one (λ t. (n < 2 ^ 32) × WritesNumber t (Some (pos n))) c.args.words.now c.in_ok-only_one.field-0 (search rules) (none n)))

@@ -1,6 +1,6 @@
 use Rattle.std.proofs.Common.{rules}
 use Rattle.script.proofs.NumberLemmas.{fitted}
-use Rattle.script.proofs.line.fitting.Goals as goal
+use Rattle.script.proofs.line.fitting_number.Goals as goal
 
 pub returns : goal.returns
 returns g c =

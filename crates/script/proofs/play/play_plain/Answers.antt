@@ -1,5 +1,5 @@
 use Rattle.std.proofs.lemmas.Result.{err_from_is_err_and}
-use Rattle.script.proofs.play.plain.Goals as goal
+use Rattle.script.proofs.play.play_plain.Goals as goal
 
 pub returns-in_err-word-in-Status : goal.returns-in_err-word-in-Status
 returns-in_err-word-in-Status g c =
