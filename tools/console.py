@@ -230,8 +230,8 @@ def play(path):
             print(f"refused {refusal}")
 
 
-LEFT = [(1200, 1310720, 65536, 20), (333, 983040, 40000, 170), (-77, 2000000, 123456, 340)]
-RIGHT = [(700, 655360, 32768, 5), (1900, 1966080, 65536, 165), (40, 3000000, 200000, 325)]
+LOTS_ONE = [(1200, 1310720, 65536, 20), (333, 983040, 40000, 170), (-77, 2000000, 123456, 340)]
+LOTS_TWO = [(700, 655360, 32768, 5), (1900, 1966080, 65536, 165), (40, 3000000, 200000, 325)]
 HEADING = "destination  velocity  acceleration  latched   moves    rests    target"
 
 
@@ -256,15 +256,15 @@ def noted(seen, gate):
     seen[2] = gate.target()
 
 
-def worked(board, right_works):
+def worked(board, two_works):
     answers, rows = ([], []), ([], [])
     tell(board, answers[0], [("SET_1",), ("SET_MTR_CMD", 20000), ("SET_INTRPT_MASK", 1)])
-    if right_works:
+    if two_works:
         tell(board, answers[1], [("SET_2",), ("SET_MTR_CMD", 12000), ("SET_INTRPT_MASK", 0)])
-    for lots in zip(LEFT, RIGHT):
+    for lots in zip(LOTS_ONE, LOTS_TWO):
         seen = [[None, None, 0], [None, None, 0]]
         ordered(board, answers[0], "SET_1", lots[0])
-        if right_works:
+        if two_works:
             ordered(board, answers[1], "SET_2", lots[1])
         for _ in range(160):
             board.cycle([(max(-32768, min(32767, g.target() - g.actual)), ()) for g in board.gates])
@@ -286,7 +286,7 @@ def show(gate, rows):
 
 def lots(first, second):
     a, b = Board(STEPS[first]), Board(STEPS[second])
-    left, rows = worked(a, True)
+    one, rows = worked(a, True)
     again, more = worked(b, False)
     print(f"board a, over {first}: lots through both gates")
     show(1, rows[0])
@@ -294,7 +294,7 @@ def lots(first, second):
     print(f"board b, over {second}: the same lots through gate 1, gate 2 idle")
     show(1, more[0])
     print("the two boards compared")
-    print(f"gate 1: {sum(x == y for x, y in zip(left, again))} of {len(left)} answers alike")
+    print(f"gate 1: {sum(x == y for x, y in zip(one, again))} of {len(one)} answers alike")
     for k in (0, 1):
         same = vars(a.gates[k]) == vars(b.gates[k]) and a.slips[k] == b.slips[k]
         apart = [abs(x - y) for x, y in zip(a.pairs[k], b.pairs[k])]

@@ -671,10 +671,10 @@ impl<const STEP: i32> Board<STEP> {
         }
     }
 
-    pub fn cycle(&mut self, [left, right]: [Input; 2]) {
+    pub fn cycle(&mut self, [input_one, input_two]: [Input; 2]) {
         let [one, two] = &mut self.gates;
-        one.cycle(left);
-        two.cycle(right);
+        one.cycle(input_one);
+        two.cycle(input_two);
         self.shown = [one, two].map(|gate| gate.phases().map(|x| cut(STEP, x)));
     }
 

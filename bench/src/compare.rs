@@ -266,10 +266,10 @@ impl Lists {
             .into_iter()
             .flat_map(|first| (0..=u8::MAX).map(move |on| (first, on)))
         {
-            let left = vec![first, 0, 1, on, 0, 2, 0, 0x02];
-            let right = vec![first, 0, 1, 0, 0, 2, on, 0x02];
-            self.add(format!("switches {on:02x}, gate 1"), left, 400);
-            self.add(format!("switches {on:02x}, gate 2"), right, 400);
+            let one = vec![first, 0, 1, on, 0, 2, 0, 0x02];
+            let two = vec![first, 0, 1, 0, 0, 2, on, 0x02];
+            self.add(format!("switches {on:02x}, gate 1"), one, 400);
+            self.add(format!("switches {on:02x}, gate 2"), two, 400);
         }
     }
 

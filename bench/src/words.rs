@@ -124,9 +124,7 @@ fn act(act: Act) -> String {
     match act {
         Act::Command(code) => format!("{name} {code:02x} {}", command(code)),
         Act::Write(word) => format!("{name} {word:04x}"),
-        Act::Cycle([left, right]) => {
-            format!("{name}, gate 1 {}, gate 2 {}", input(left), input(right))
-        }
+        Act::Cycle([one, two]) => format!("{name}, gate 1 {}, gate 2 {}", input(one), input(two)),
         Act::Close { gate, word } | Act::CloseElsewhere { gate, word } => {
             format!("{name}, gate {} with {word:04x}", gate + 1)
         }

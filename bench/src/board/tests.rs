@@ -36,8 +36,8 @@ fn cycle(board: &mut Dac) {
     board.cycle([Input::default(); 2]);
 }
 
-fn cycle_with(board: &mut Dac, left: Input) {
-    board.cycle([left, Input::default()]);
+fn cycle_with(board: &mut Dac, one: Input) {
+    board.cycle([one, Input::default()]);
 }
 
 fn positive() -> Input {

@@ -65,12 +65,13 @@ Belongs k s a (entry_close w) = (a ≡ act_close k w) × ((gate_of s k).slip ≡
 abbrev pub IsForeign : ℕ → State → Act → Type 0
 IsForeign k s a = (e : OwnEntry) → Belongs k s a e → ⊥
 
--- what comes to the port: a command, a word that is written, a read
+-- what comes to the port: all but a cycle, a reset, a take and a close
 abbrev pub IsAtPort : Act → Type 0
-IsAtPort (act_command b) = Unit {0}
-IsAtPort (act_write w) = Unit {0}
-IsAtPort act_read = Unit {0}
-IsAtPort a = ⊥
+IsAtPort (act_cycle i j) = ⊥
+IsAtPort act_reset = ⊥
+IsAtPort act_take = ⊥
+IsAtPort (act_close k w) = ⊥
+IsAtPort a = Unit {0}
 
 -- which gate is current after an act: gate 1 after a reset, the gate whose status is given, and else the one that was
 pub record SetsCurrent (s : State) (a : Act) (z : State) : Type 0 where

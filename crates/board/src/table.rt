@@ -243,7 +243,7 @@ impl Table {
         (phases_one, phases_two)
     }
 
-    /// Resets both gates but for their slip marks, the current gate and the port.
+    /// Resets the port, the current gate, and both gates but for their slip marks.
     pub fn reset(&mut self)
         requires { IsSoundTable self.old }
         ensures state { state_of self.new ≡ state_after_act (state_of self.old) act_reset }

@@ -174,12 +174,12 @@ module _ {S : Type 0} (m : Ghosts S) where
     pub ready : Bench
     pub both : Bench
     pub one_ready : ForGateOne (MakesReady 20000 1) s ready
-    pub two_ready : ForGateTwo (IfSomething (λ (rs : List Lot). MakesReady 12000 0) lots_two) ready both
+    pub two_ready : ForGateTwo (IfSomething (λ (lots : List Lot). MakesReady 12000 0) lots_two) ready both
     pub turns : WorksInTurn lots lots_two (length lots) both t
 
   -- a board with the works of its two gates, and one whose gates are yet to be worked
   abbrev pub bench_of : Board S m → Work → Work → Bench
-  bench_of b notes_one notes_two = record { board = b; notes_one = notes_of notes_one; notes_two = notes_of notes_two }
+  bench_of b one two = record { board = b; notes_one = notes_of one; notes_two = notes_of two }
 
   abbrev pub new_bench : Board S m → Bench
   new_bench b = record { board = b; notes_one = no_notes First; notes_two = no_notes Second }
