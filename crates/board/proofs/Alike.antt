@@ -27,8 +27,8 @@ quantize_near m n a b (negsuc x) =
     let q = quantized_size_near n (suc x) b in
     record { below = omega (arith, ints); above = omega (arith, ints) }
 
-pair_at_quantized : (step : ℕ) (p : Pairs) (k : ℕ) → k < 2 → axis_pair (quantized_pairs step p) k ≡ quantized_pair step (axis_pair p k)
-pair_at_quantized step p = by_two (λ k. axis_pair (quantized_pairs step p) k ≡ quantized_pair step (axis_pair p k)) refl refl
+axis_pair_quantized : (step : ℕ) (p : Pairs) (k : ℕ) → k < 2 → axis_pair (quantized_pairs step p) k ≡ quantized_pair step (axis_pair p k)
+axis_pair_quantized step p = by_two (λ k. axis_pair (quantized_pairs step p) k ≡ quantized_pair step (axis_pair p k)) refl refl
 
 module _ {S : Type 0} (m : Ghosts S) (b : Board S m) (h : List Act) (k : ℕ) (l : k < 2) (c : IsReachedBy m h b) where
   gate_is : gate_of (state_of b.table) k ≡ gate_by_own_list (own_list k h)
@@ -36,7 +36,7 @@ module _ {S : Type 0} (m : Ghosts S) (b : Board S m) (h : List Act) (k : ℕ) (l
 
   pair_is : axis_pair (m.pairs b.stage) k ≡ quantized_pair m.STEP (display (own_list k h))
   pair_is =
-      ap (λ p. axis_pair p k) c.pairs ∙ (pair_at_quantized m.STEP (given_pairs_after h) k l ∙ ap (quantized_pair m.STEP) (displayed k l h))
+      ap (λ p. axis_pair p k) c.pairs ∙ (axis_pair_quantized m.STEP (given_pairs_after h) k l ∙ ap (quantized_pair m.STEP) (displayed k l h))
 
   active_is : (gate_of (state_of b.table) k).active ≡ (book (own_list k h)).latched
   active_is = ap (λ g. g.active) gate_is ∙ (booked (own_list k h)).latched

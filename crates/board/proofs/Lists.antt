@@ -105,7 +105,7 @@ display (e ∷ es) = display es
 
 -- an order or a question gives the stage nothing
 displays : (es : List OwnEntry) → Ordinary (λ l. display (l ++ es) ≡ display es)
-displays es = record { none = refl; orders = λ _. refl; words = λ _ _. refl; longs = λ _ _ _. refl; asks = λ _. refl; views = λ _. refl }
+displays es = record { none = refl; orders = λ _. refl; words = λ _ _. refl; longs = λ _ _ _. refl; queries = λ _. refl; statuses = λ _. refl }
 
 -- what a board last gave the stage for gate k is what the gate alone gave
 pub displayed : (k : ℕ) → k < 2 → (h : List Act) → axis_pair (given_pairs_after h) k ≡ display (own_list k h)

@@ -20,8 +20,8 @@ use Rattle.board.specs.declared.refusal.Refusal.TheVariants.{NoSlip}
 use Rattle.board.specs.Commands.{command_of}
 use Rattle.board.specs.Ports.{command_step, write_step, read_step, start_step, port_step}
 use Rattle.board.specs.Own.{OwnEntry, entry_reset, entry_cycle, entry_order, entry_word_order, entry_long_order, entry_query, entry_status, entry_take, entry_close, gate_after_list}
-use Rattle.board.specs.Acts.{State, gate_of, Act, act_command, act_write, act_read, act_cycle, act_reset, act_take, act_close, is_gate_counted, named_gate, caller, waiting_gate, enter, entry_transition, refuse, multi_update, refuse_value, step_transition, transition, current_after, entries, state_after_act}
-use Rattle.board.specs.Owners.{GivesCommand, IsLowest, is_waiting, IsNamed, Belongs, IsForeign, IsAtPort, SetsCurrent, GrowsByEntry}
+use Rattle.board.specs.Acts.{State, gate_of, Act, act_command, act_write, act_read, act_cycle, act_reset, act_take, act_close, is_gate_counted, named_gate, lowest_gate, is_waiting, caller, waiting_gate, enter, entry_transition, refuse, multi_update, refuse_value, step_transition, transition, current_after, entries, state_after_act}
+use Rattle.board.specs.Owners.{GivesCommand, IsLowest, IsNamed, Belongs, IsForeign, IsAtPort, SetsCurrent, GrowsByEntry}
 use Rattle.board.specs.Runs.{state_after}
 use Rattle.board.specs.Isolation.{own_list}
 use Rattle.board.proofs.Lists.{after_gate}
@@ -54,10 +54,7 @@ below_one : (P : ℕ → Type 0) → P 0 → (j : ℕ) → j < 1 → P j
 below_one P p zero l = p
 below_one P p (suc j) l = let no : ⊥ = omega arith in absurd no
 
--- the lowest-numbered gate that passes a test, by what the test says of both
-abbrev lowest : (Gate → Bool) → State → Option ℕ
-lowest test s = cond (test s.one) (Some 0) (cond (test s.two) (Some 1) None)
-
+-- which gate is the lowest-numbered that passes a test, by what the test says of both
 by_tests : (test : Gate → Bool) (s : State) (a b : Bool) (k : ℕ) → test s.one ≡ a → test s.two ≡ b → cond a (Some 0) (cond b (Some 1) None) ≡ Some k → (k < 2) × IsLowest test s k
 by_tests test s true b zero e d h = (omega arith, record { passes = e; lower = λ j l. let no : ⊥ = omega arith in absurd no })
 by_tests test s true b (suc k) e d h = let never : ◌≡◌ {A = ℕ} 0 (suc k) = cc in absurd (omega arith)
@@ -66,10 +63,10 @@ by_tests test s false true (suc zero) e d h = (omega arith, record { passes = d;
 by_tests test s false true (suc (suc k)) e d h = let never : ◌≡◌ {A = ℕ} 1 (suc (suc k)) = cc in absurd (omega arith)
 by_tests test s false false k e d h = cc
 
-pub lowest_is : (test : Gate → Bool) (s : State) (k : ℕ) → lowest test s ≡ Some k → (k < 2) × IsLowest test s k
+pub lowest_is : (test : Gate → Bool) (s : State) (k : ℕ) → lowest_gate test s ≡ Some k → (k < 2) × IsLowest test s k
 lowest_is test s k h = by_tests test s (test s.one) (test s.two) k refl refl h
 
-is_lowest : (test : Gate → Bool) (s : State) (k : ℕ) → k < 2 → IsLowest test s k → lowest test s ≡ Some k
+is_lowest : (test : Gate → Bool) (s : State) (k : ℕ) → k < 2 → IsLowest test s k → lowest_gate test s ≡ Some k
 is_lowest test s zero l i = ap (λ a. cond a (Some 0) (cond (test s.two) (Some 1) None)) i.passes
 is_lowest test s (suc zero) l i =
     ap (λ a. cond a (Some 0) (cond (test s.two) (Some 1) None)) (i.lower 0 (omega arith)) ∙ ap (λ b. cond b (Some 1) None) i.passes
@@ -81,11 +78,11 @@ named_is k s Second h = cc
 named_is k s Calling h = (lowest_is is_calling s k h).1
 named_is k s Current h = cc
 
-whose_named : (k : ℕ) → k < 2 → (s : State) (w : GateName) → IsNamed s w k → named_gate s w ≡ Some k
-whose_named k l s First h = ap Some (sym h)
-whose_named k l s Second h = ap Some (sym h)
-whose_named k l s Calling h = is_lowest is_calling s k l h
-whose_named k l s Current h = ap Some (sym h)
+named_gate_is : (k : ℕ) → k < 2 → (s : State) (w : GateName) → IsNamed s w k → named_gate s w ≡ Some k
+named_gate_is k l s First h = ap Some (sym h)
+named_gate_is k l s Second h = ap Some (sym h)
+named_gate_is k l s Calling h = is_lowest is_calling s k l h
+named_gate_is k l s Current h = ap Some (sym h)
 
 -- the bit of gate k in a word of MULTI_UPDATE
 bit_counts : (w k : ℕ) → w < 4 → k < 2 → is_gate_counted w k ≡ bit w k
@@ -104,8 +101,8 @@ single = record {
   orders = λ o. inr (entry_order o, refl);
   words = λ o w. inr (entry_word_order o w, refl);
   longs = λ o high low. inr (entry_long_order o high low, refl);
-  asks = λ q. inr (entry_query q, refl);
-  views = λ w. inr (entry_status w, refl);
+  queries = λ q. inr (entry_query q, refl);
+  statuses = λ w. inr (entry_status w, refl);
 }
 
 -- a MULTI_UPDATE's word is taken where its packet is open
@@ -229,7 +226,7 @@ module _ (k : ℕ) (l : k < 2) (s : State) where
   stands a (entry_long_order o high low) b =
       write_stands a low (TakingLow o high) b.0 b.1 ∙ stands_at k s.current (entry_long_order o high low) b.2
   stands a (entry_query q) b = command_stands a (Ask q) b.0 ∙ stands_at k s.current (entry_query q) b.1
-  stands a (entry_status w) b = command_stands a (Status w) b.0 ∙ stands_if k (named_gate s w) (entry_status w) (whose_named k l s w b.1)
+  stands a (entry_status w) b = command_stands a (Status w) b.0 ∙ stands_if k (named_gate s w) (entry_status w) (named_gate_is k l s w b.1)
   stands a entry_take b = ap (λ x. entries k (transition s x)) b.0 ∙ stands_if k (waiting_gate s) entry_take (is_lowest is_waiting s k l b.1)
   stands a (entry_close w) b =
       ap (λ x. entries k (transition s x)) b.0
@@ -279,7 +276,7 @@ module _ (k : ℕ) (l : k < 2) (s : State) where
       → gate_after_list (entries k (step_transition s r)) (gate_of s k) ≡ gate_of s k
   off_step (Err e) gates apart = refl
   off_step (Ok step.Wait) gates apart = refl
-  off_step (Ok (step.View w)) gates apart = off_status (named_gate s w) w
+  off_step (Ok (step.Status w)) gates apart = off_status (named_gate s w) w
   off_step (Ok (step.Ask q)) gates apart = off_current (entry_query q) apart
   off_step (Ok (step.Run o)) gates apart = off_current (entry_order o) apart
   off_step (Ok (step.Word o w)) gates apart = off_current (entry_word_order o w) apart
@@ -349,7 +346,7 @@ turns s a = record {
       ap (λ x. (state_after_act s x).current) b.0.act
       ∙ (ap (λ p. current_after s.current (step_transition s (command_step p (command_of b.0.code)))) b.0.idle
       ∙ (ap (λ o. current_after s.current (step_transition s (start_step o))) b.0.names
-      ∙ ap (λ o. current_after s.current (entry_transition o (entry_status w))) (whose_named k l s w b.1)));
+      ∙ ap (λ o. current_after s.current (entry_transition o (entry_status w))) (named_gate_is k l s w b.1)));
   stays = by a;
 }
   where

@@ -18,8 +18,8 @@ pub record Ordinary (P : List OwnEntry → Type 0) : Type 0 where
   pub orders : (o : Order) → P (entry_order o ∷ [])
   pub words : (o : WordOrder) (w : ℕ) → P (entry_word_order o w ∷ [])
   pub longs : (o : LongOrder) (high low : ℕ) → P (entry_long_order o high low ∷ [])
-  pub asks : (q : Query) → P (entry_query q ∷ [])
-  pub views : (w : GateName) → P (entry_status w ∷ [])
+  pub queries : (q : Query) → P (entry_query q ∷ [])
+  pub statuses : (w : GateName) → P (entry_status w ∷ [])
 
 -- then it holds of all that comes about at the port, and of an entry that may come about, where it holds of that alone
 module _ {P : List OwnEntry → Type 0} (o : Ordinary P) where
@@ -35,8 +35,8 @@ module _ {P : List OwnEntry → Type 0} (o : Ordinary P) where
   pub by_step : (k : ℕ) (s : State) (r : Result Step Refusal) → P (entries k (step_transition s r))
   by_step k s (Err r) = o.none
   by_step k s (Ok step.Wait) = o.none
-  by_step k s (Ok (step.View w)) = by_if k (named_gate s w) (entry_status w) (o.views w)
-  by_step k s (Ok (step.Ask q)) = by_one (eqb s.current k) (entry_query q) (o.asks q)
+  by_step k s (Ok (step.Status w)) = by_if k (named_gate s w) (entry_status w) (o.statuses w)
+  by_step k s (Ok (step.Ask q)) = by_one (eqb s.current k) (entry_query q) (o.queries q)
   by_step k s (Ok (step.Run n)) = by_one (eqb s.current k) (entry_order n) (o.orders n)
   by_step k s (Ok (step.Word n w)) = by_one (eqb s.current k) (entry_word_order n w) (o.words n w)
   by_step k s (Ok (step.Long n high low)) = by_one (eqb s.current k) (entry_long_order n high low) (o.longs n high low)

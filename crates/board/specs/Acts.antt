@@ -77,13 +77,21 @@ pub data Transition : Type 0 where
   cycle_both : Inputs → Inputs → Transition
   reset_both : Transition
 
+-- the lowest-numbered gate that passes a test
+abbrev pub lowest_gate : (Gate → Bool) → State → Option ℕ
+lowest_gate test s = cond (test s.one) (Some 0) (cond (test s.two) (Some 1) None)
+
 -- the lowest-numbered gate that calls
 abbrev pub caller : State → Option ℕ
-caller s = cond (is_calling s.one) (Some 0) (cond (is_calling s.two) (Some 1) None)
+caller s = lowest_gate is_calling s
 
--- the lowest-numbered gate that calls and has no slip out
+-- a gate that calls and has no slip out
+abbrev pub is_waiting : Gate → Bool
+is_waiting g = is_calling g && not g.slip
+
+-- the lowest-numbered of those
 abbrev pub waiting_gate : State → Option ℕ
-waiting_gate s = cond (is_calling s.one && not s.one.slip) (Some 0) (cond (is_calling s.two && not s.two.slip) (Some 1) None)
+waiting_gate s = lowest_gate is_waiting s
 
 abbrev pub named_gate : State → GateName → Option ℕ
 named_gate s First = Some 0
@@ -99,7 +107,7 @@ entry_transition None e = refuse NoCall
 abbrev pub step_transition : State → Result Step Refusal → Transition
 step_transition s (Err r) = refuse r
 step_transition s (Ok step.Wait) = wait
-step_transition s (Ok (step.View w)) = entry_transition (named_gate s w) (entry_status w)
+step_transition s (Ok (step.Status w)) = entry_transition (named_gate s w) (entry_status w)
 step_transition s (Ok (step.Ask q)) = enter s.current (entry_query q)
 step_transition s (Ok (step.Run o)) = enter s.current (entry_order o)
 step_transition s (Ok (step.Word o w)) = enter s.current (entry_word_order o w)

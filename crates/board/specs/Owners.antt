@@ -1,5 +1,5 @@
 -- Whose an act is: which entry of a gate's own list it makes, by rules on the entry, and not by where the act leads.
-use Rattle.std.specs.Prelude.{◌≡◌, ◌≢◌, ℕ, ◌<◌, Bool, true, false, cond, not, ◌&&◌, ◌⊎◌, List, ◌∷◌, Some, ◌==◌}
+use Rattle.std.specs.Prelude.{◌≡◌, ◌≢◌, ℕ, ◌<◌, Bool, true, false, cond, ◌⊎◌, List, ◌∷◌, Some, ◌==◌}
 use Rattle.gate.specs.declared.gate.Gate.{Gate}
 use Rattle.gate.specs.declared.inputs.Inputs.{Inputs}
 use Rattle.gate.specs.declared.orders.Order.{Order}
@@ -13,7 +13,7 @@ use Rattle.board.specs.declared.command.GateName.TheVariants.{First, Second, Cal
 use Rattle.board.specs.declared.port.Port.TheVariants.{Idle, TakingWord, TakingLow, TakingGates}
 use Rattle.board.specs.Commands.{command_of}
 use Rattle.board.specs.Own.{OwnEntry, entry_reset, entry_cycle, entry_order, entry_word_order, entry_long_order, entry_query, entry_status, entry_take, entry_close}
-use Rattle.board.specs.Acts.{State, gate_of, Act, act_command, act_write, act_read, act_cycle, act_reset, act_take, act_close}
+use Rattle.board.specs.Acts.{State, gate_of, is_waiting, Act, act_command, act_write, act_cycle, act_reset, act_take, act_close}
 
 -- the code of a command comes to an idle port
 pub record GivesCommand (s : State) (a : Act) (c : Command) : Type 0 where
@@ -35,10 +35,6 @@ pub record CountsUpdate (k : ℕ) (s : State) (a : Act) (o : Order) : Type 0 whe
 pub record IsLowest (test : Gate → Bool) (s : State) (k : ℕ) : Type 0 where
   pub passes : test (gate_of s k) ≡ true
   pub lower : (j : ℕ) → j < k → test (gate_of s j) ≡ false
-
--- a gate that calls and has no slip out
-abbrev pub is_waiting : Gate → Bool
-is_waiting g = is_calling g && not g.slip
 
 -- the gate whose status is asked
 abbrev pub IsNamed : State → GateName → ℕ → Type 0

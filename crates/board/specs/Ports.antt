@@ -23,7 +23,7 @@ port_after_start (Some MultiUpdate) = TakingGates
 port_after_start None = Idle
 
 abbrev pub start_step : Option Command → Result Step Refusal
-start_step (Some (Status w)) = Ok (step.View w)
+start_step (Some (Status w)) = Ok (step.Status w)
 start_step (Some (Ask q)) = Ok (step.Ask q)
 start_step (Some (Now o)) = Ok (step.Run o)
 start_step (Some (Word o)) = Ok step.Wait
@@ -48,9 +48,9 @@ command_step TakingGates c = Err PacketOpen
 command_step (Giving w t) c = Err PacketOpen
 
 -- what waits behind a word that is given
-abbrev pub port_behind : Option ℕ → Port
-port_behind (Some w) = Giving w None
-port_behind None = Idle
+abbrev pub port_after_word : Option ℕ → Port
+port_after_word (Some w) = Giving w None
+port_after_word None = Idle
 
 abbrev pub port_after_write : Port → ℕ → Port
 port_after_write Idle w = Idle
@@ -74,7 +74,7 @@ port_after_read (TakingWord o) = TakingWord o
 port_after_read (TakingHigh o) = TakingHigh o
 port_after_read (TakingLow o high) = TakingLow o high
 port_after_read TakingGates = TakingGates
-port_after_read (Giving w t) = port_behind t
+port_after_read (Giving w t) = port_after_word t
 
 abbrev pub read_step : Port → Result Step Refusal
 read_step Idle = Err NotGiving

@@ -1,5 +1,5 @@
 ghost use Rattle.std.specs.Prelude.{◌≡◌};
-ghost use Rattle.board.specs.Ports.{port_behind, port_after_incoming, port_step};
+ghost use Rattle.board.specs.Ports.{port_after_word, port_after_incoming, port_step};
 
 use crate::command::{Command, GateName};
 use crate::refusal::Refusal;
@@ -30,7 +30,7 @@ pub enum Incoming {
 pub enum Step {
     // the packet waits for a word
     Wait,
-    View(GateName),
+    Status(GateName),
     Ask(Query),
     Run(Order),
     Word(WordOrder, u16),
@@ -48,7 +48,7 @@ impl Port {
     {
         let (port, step) = match (*self, incoming) {
             (Port::Idle, Incoming::Command(code)) => match Command::try_from(code)? {
-                Command::Status(named) => (Port::Idle, Step::View(named)),
+                Command::Status(named) => (Port::Idle, Step::Status(named)),
                 Command::Ask(query) => (Port::Idle, Step::Ask(query)),
                 Command::Now(order) => (Port::Idle, Step::Run(order)),
                 Command::Word(order) => (Port::TakingWord { order }, Step::Wait),
@@ -69,7 +69,7 @@ impl Port {
             (Port::Idle | Port::Giving { .. }, Incoming::Write(_)) => {
                 return Err(Refusal::NotTaking);
             }
-            (Port::Giving { word, then }, Incoming::Read) => (Port::behind(then), Step::Give(word)),
+            (Port::Giving { word, then }, Incoming::Read) => (Port::next(then), Step::Give(word)),
             (_, Incoming::Read) => return Err(Refusal::NotGiving),
         };
         *self = port;
@@ -77,8 +77,8 @@ impl Port {
     }
 
     // The port once a word is given: the next word waits, or none.
-    fn behind(then: Option<u16>) -> Port
-        ensures { result ≡ port_behind then }
+    fn next(then: Option<u16>) -> Port
+        ensures { result ≡ port_after_word then }
     {
         match then {
             Some(word) => Port::Giving { word, then: None },

@@ -129,7 +129,7 @@ impl Table {
     }
 
     // Makes the named gate current, and gives its status.
-    fn view(&mut self, named: GateName) -> Result<(), Refusal>
+    fn answer_status(&mut self, named: GateName) -> Result<(), Refusal>
         requires { IsSoundTable self.old }
         ensures answer { answer_of_unit result ≡
             transition_answer (state_of self.old)
@@ -170,7 +170,7 @@ impl Table {
     {
         match self.port.step(Incoming::Command(code))? {
             Step::Wait => {}
-            Step::View(named) => self.view(named)?,
+            Step::Status(named) => self.answer_status(named)?,
             Step::Ask(query) => self.fix(query),
             Step::Run(order) => self.run(order),
             _ => unreachable!(),

@@ -51,21 +51,21 @@ leaves g =
       orders = λ o. order_slip o g;
       words = λ o w. word_slip o (is_word_in_range o w) w g;
       longs = λ o high low. long_slip o (is_long_in_range o (join high low)) (join high low) g;
-      asks = λ _. refl;
-      views = λ _. refl;
+      queries = λ _. refl;
+      statuses = λ _. refl;
     }
 
 -- acts that are no slip's
-abbrev pub plain : Act → Bool
-plain (act_command b) = true
-plain (act_write w) = true
-plain act_read = true
-plain (act_cycle i j) = true
-plain act_reset = true
-plain act_take = false
-plain (act_close k w) = false
+abbrev pub is_no_slip_act : Act → Bool
+is_no_slip_act (act_command b) = true
+is_no_slip_act (act_write w) = true
+is_no_slip_act act_read = true
+is_no_slip_act (act_cycle i j) = true
+is_no_slip_act act_reset = true
+is_no_slip_act act_take = false
+is_no_slip_act (act_close k w) = false
 
-act_slip : (k : ℕ) (s : State) (a : Act) (g : Gate) → plain a ≡ true → (gate_after_list (entries k (transition s a)) g).slip ≡ g.slip
+act_slip : (k : ℕ) (s : State) (a : Act) (g : Gate) → is_no_slip_act a ≡ true → (gate_after_list (entries k (transition s a)) g).slip ≡ g.slip
 act_slip k s (act_command b) g h = by_step (leaves g) k s (port_step s.port (incoming.Command b))
 act_slip k s (act_write w) g h = by_step (leaves g) k s (port_step s.port (incoming.Write w))
 act_slip k s act_read g h = by_step (leaves g) k s (port_step s.port incoming.Read)
@@ -77,11 +77,11 @@ act_slip k s act_take g h = cc
 act_slip k s (act_close j w) g h = cc
 
 -- so they leave each gate's mark
-act_mark : (k : ℕ) (s : State) (a : Act) → k < 2 → plain a ≡ true → (gate_of (state_after_act s a) k).slip ≡ (gate_of s k).slip
+act_mark : (k : ℕ) (s : State) (a : Act) → k < 2 → is_no_slip_act a ≡ true → (gate_of (state_after_act s a) k).slip ≡ (gate_of s k).slip
 act_mark k s a l h = ap (λ x. x.slip) (after_gate s a k l) ∙ act_slip k s a (gate_of s k) h
 
 -- the slips that are kept stay the right ones
-pub still_keeps : (s z : State) (a : Act) (first second : Option Slip) → plain a ≡ true → z ≡ state_after_act s a
+pub still_keeps : (s z : State) (a : Act) (first second : Option Slip) → is_no_slip_act a ≡ true → z ≡ state_after_act s a
     → state_has_kept_slips s first second ≡ true → state_has_kept_slips z first second ≡ true
 still_keeps s z a first second p e h =
     let one : z.one.slip ≡ s.one.slip = ap (λ x. x.one.slip) e ∙ act_mark 0 s a (lit< tt) p in

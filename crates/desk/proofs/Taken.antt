@@ -3,8 +3,7 @@ use Rattle.std.proofs.Common.{◌≡◌, ℕ, Bool, true, false, not, ◌&&◌, 
 use Rattle.board.specs.declared.slip.Slip.{Slip}
 use Rattle.board.specs.declared.refusal.Refusal.{Refusal}
 use Rattle.board.specs.Own.{entry_take, answer_slip, answer_refused}
-use Rattle.board.specs.Acts.{State, gate_of, enter, entry_transition, next_state, state_after_act, answer, act_take}
-use Rattle.board.specs.Owners.{is_waiting}
+use Rattle.board.specs.Acts.{State, gate_of, is_waiting, enter, entry_transition, next_state, state_after_act, answer, act_take}
 use Rattle.board.proofs.Owners.{lowest_is}
 use Rattle.board.proofs.Slips.{taken_gate, taken_none}
 use Rattle.desk.specs.Keeps.{is_kept_while_out, state_has_kept_slips}

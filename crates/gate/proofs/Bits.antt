@@ -9,8 +9,8 @@ or_false : (a : Bool) → (a || false) ≡ a
 or_false true = refl
 or_false false = refl
 
-pub raised_is : (mask : ℕ) (e : Events) → list_any (λ (p : Event × Bool). p.1 && bit mask (place p.0)) (event_bits e) ≡ has_bit_in mask e
-raised_is mask e = rw or_false
+pub has_bit_in_is : (mask : ℕ) (e : Events) → list_any (λ (p : Event × Bool). p.1 && bit mask (place p.0)) (event_bits e) ≡ has_bit_in mask e
+has_bit_in_is mask e = rw or_false
 
 -- what a bit adds to the word
 abbrev pub at_place : Event × Bool → ℕ

@@ -82,14 +82,14 @@ meet_reached home g = by (is_breakpoint_met home g) g.breakpoint.auto g.events.b
     by false c true e = e
     by false c false e = e
 
-arrived_settle : (m : ProfileMode) (g : Gate) → has_arrived m (settle g) ≡ has_arrived m g
-arrived_settle Velocity g = refl
-arrived_settle Trapezoidal g = refl
+has_arrived_settle : (m : ProfileMode) (g : Gate) → has_arrived m (settle g) ≡ has_arrived m g
+has_arrived_settle Velocity g = refl
+has_arrived_settle Trapezoidal g = refl
 
 -- to note that a gate rests does not change whether it does
 at_rest_settle : (g : Gate) → is_at_rest (settle g) ≡ is_at_rest g
 at_rest_settle g =
-    ap (λ a. eqb (nat_abs g.motion.velocity) 0 && (g.motion.halted || (eqb g.active.velocity 0 || a))) (arrived_settle g.active.mode g)
+    ap (λ a. eqb (nat_abs g.motion.velocity) 0 && (g.motion.halted || (eqb g.active.velocity 0 || a))) (has_arrived_settle g.active.mode g)
 
 module _ (i : Inputs) (g : Gate) where
   early : Gate

@@ -81,7 +81,7 @@ pub struct Gate {
 }
 
 // A position in 1/65,536 microstep.
-fn whole(position: i32) -> i64
+fn fixed_point(position: i32) -> i64
     requires { IsWithin (2 ^ 30) position }
     ensures is { result ≡ pos 65536 *ℤ position }
     ensures range { IsWithin (2 ^ 46) result }
@@ -154,7 +154,7 @@ impl Gate {
     {
         self.halt();
         self.actual = position;
-        self.motion.target = whole(position);
+        self.motion.target = fixed_point(position);
     }
 
     // Notes a command that was refused for its value.
@@ -183,7 +183,7 @@ impl Gate {
     }
 
     /// Whether two records are equal in every field: the derived `==` says which test it makes, and this that the test decides equality.
-    pub fn same(&self, other: &Gate) -> bool
+    pub fn is_same(&self, other: &Gate) -> bool
         ensures { Decides result (self.now ≡ other.now) }
     {
         *self == *other

@@ -20,7 +20,7 @@ fn show_work(rt: &HostRuntime, gate: u8, work: &Work) -> anyhow::Result<()> {
 }
 
 // How many answers of two lists are equal, place by place.
-fn alike<T: PartialEq>(a: &[T], b: &[T]) -> usize
+fn count_alike<T: PartialEq>(a: &[T], b: &[T]) -> usize
     ensures { result ≡ count_by (λ p. T.PartialEq.eq p.0 p.1) (zip a.now b.now) }
 {
     a.iter().zip(b).filter(|(x, y)| **x == **y).count()
@@ -62,7 +62,7 @@ pub fn show_lots<S: Stage + Drop, R: Stage + Drop>(
     show_work(rt, 1, &again)?;
     println!(rt; "the two boards compared")?;
     let count = one.answers.len();
-    let same = alike(one.answers.as_slice(), again.answers.as_slice());
+    let same = count_alike(one.answers.as_slice(), again.answers.as_slice());
     println!(rt; "gate 1: {same} of {count} answers alike")?;
     show_comparison(rt, a.board(), b.board(), 1)?;
     show_comparison(rt, a.board(), b.board(), 2)

@@ -24,7 +24,7 @@ pub fn toward(v: i32, target: i32, by: u32) -> i32
 }
 
 // The size with the sign of `d`.
-#[tactic(auto, using(crate::proofs::Velocities::along_back, crate::proofs::Velocities::along_on))]
+#[tactic(auto, using(crate::proofs::Velocities::with_sign_of_back, crate::proofs::Velocities::with_sign_of_on))]
 pub(crate) fn with_sign_of(d: i64, size: u32) -> i32
     requires { size < 2 ^ 30 }
     ensures is { result ≡ with_sign_of d size }

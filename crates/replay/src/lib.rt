@@ -2,6 +2,7 @@
 #![tactic(auto)]
 
 ghost use Rattle.std.specs.Prelude.{◌≡◌, true, false};
+ghost use Rattle.stage.specs.Wiring.{wires_of};
 ghost use Rattle.replay.specs.Replays.{FillsRoom};
 ghost use Rattle.replay.specs.Returns.{Returns};
 
@@ -23,8 +24,10 @@ pub mod reply;
 
 // A PWM stage behind a wiring that exchanges the phases of gate 1 and negates phase A of gate 2.
 fn wired_pwm() -> Wiring<Pwm>
-    ensures one { result.one ≡ record { exchanged = true; negated = false } }
-    ensures two { result.two ≡ record { exchanged = false; negated = true } }
+    ensures { wires_of result ≡ (
+      record { exchanged = true; negated = false },
+      record { exchanged = false; negated = true },
+    ) }
 {
     let one = GateWiring {
         exchanged: true,

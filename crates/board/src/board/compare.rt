@@ -17,7 +17,7 @@ pub struct Comparison {
     pub apart: (u32, u32),
 }
 
-fn apart(a: (i32, i32), b: (i32, i32)) -> (u32, u32)
+fn phase_distances(a: (i32, i32), b: (i32, i32)) -> (u32, u32)
     ensures first { result.0 ≡ unsigned_abs (a.0 -ℤ b.0) }
     ensures second { result.1 ≡ unsigned_abs (a.1 -ℤ b.1) }
 {
@@ -28,7 +28,7 @@ fn same_record(a: &Table, b: &Table, axis: u8) -> bool
     requires { axis < 2 }
     ensures { Decides result (gate_of (state_of a.now) axis ≡ gate_of (state_of b.now) axis) }
 {
-    a.gates[axis as usize].same(&b.gates[axis as usize])
+    a.gates[axis as usize].is_same(&b.gates[axis as usize])
 }
 
 fn comparison_of<S: Stage + Drop, R: Stage + Drop>(
@@ -42,7 +42,7 @@ fn comparison_of<S: Stage + Drop, R: Stage + Drop>(
     let same = same_record(&a.table, &b.table, gate - 1);
     Comparison {
         same,
-        apart: apart(a.pair(gate), b.pair(gate)),
+        apart: phase_distances(a.pair(gate), b.pair(gate)),
     }
 }
 

@@ -1,4 +1,4 @@
-use Rattle.gate_tests.proofs.drive.sent.Goals as goal
+use Rattle.gate_tests.proofs.drive.sent_gate.Goals as goal
 
 pub returns : goal.returns
 returns c =
