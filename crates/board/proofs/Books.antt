@@ -13,7 +13,7 @@ use Rattle.gate.specs.Cycles.{tick, add_count, trip, is_breakpoint_met, with_bre
 use Rattle.gate.specs.Gates.{with_command_error, latch}
 use Rattle.gate.specs.Orders.{run, run_word, run_long, with_word, is_word_in_range, with_long, is_long_in_range}
 use Rattle.gate.proofs.Steps.{meet_keeps}
-use Rattle.board.specs.Own.{OwnEntry, entry_reset, entry_cycle, entry_order, entry_word_order, entry_long_order, entry_query, entry_status, entry_take, entry_close, join, gate_by_own_list}
+use Rattle.board.specs.Own.{OwnEntry, entry_reset, entry_cycle, entry_order, entry_word_order, entry_long_order, entry_query, entry_status, entry_take, entry_close, entry_collect, join, gate_by_own_list}
 use Rattle.board.specs.Isolation.{Book, book, book_after_order, book_after_long, book_after_latch, is_latching_cycle}
 
 pub record Written (buffered active : Profile) (b : Book) : Type 0 where
@@ -90,3 +90,4 @@ booked (entry_query q ∷ es) = booked es
 booked (entry_status w ∷ es) = booked es
 booked (entry_take ∷ es) = record { loaded = (booked es).loaded; latched = (booked es).latched }
 booked (entry_close w ∷ es) = record { loaded = (booked es).loaded; latched = (booked es).latched }
+booked (entry_collect ∷ es) = record { loaded = (booked es).loaded; latched = (booked es).latched }

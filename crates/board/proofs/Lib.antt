@@ -4,6 +4,10 @@ pub mod Transitions
 pub mod Lists
 pub mod Owners
 pub mod Books
+pub mod Marks
+pub mod Batches
+pub mod EachOnce
+pub mod Collecting
 pub mod Alike
 pub mod Slips
 pub mod Sequences

@@ -1,20 +1,21 @@
 -- A gate of a board is its own list, replayed.
-use Rattle.std.proofs.Common.{◌≡◌, ℕ, ◌<◌, Bool, true, false, cond, eqb, List, [], ◌∷◌, ◌++◌, map, pos, sym, refl, ap, ◌∙◌, eqb-true}
-use Rattle.stage.specs.Pairs.{Pair, zero_pairs}
+use Rattle.std.proofs.Common.{◌≡◌, ℕ, ◌-◌, ◌<◌, Bool, true, false, cond, eqb, List, [], ◌∷◌, ◌++◌, map, pos, sym, refl, ap, ◌∙◌, eqb-true}
+use Rattle.stage.specs.Pairs.{Pair, zero_pairs, is_gate}
 use Rattle.gate.specs.declared.gate.Gate.{Gate}
 use Rattle.gate.specs.declared.orders.Order.TheVariants.{Update}
 use Rattle.gate.specs.Cycles.{gate_phases}
 use Rattle.gate.specs.Gates.{fresh_gate}
 use Rattle.gate.specs.Orders.{is_word_in_range, is_long_in_range}
 use Rattle.board.specs.declared.refusal.Refusal.TheVariants.{NoSlip}
+use Rattle.board.specs.Collects.{has_room}
 use Rattle.board.specs.declared.port.Incoming.TheVariants as incoming
 use Rattle.board.specs.Ports.{port_step}
-use Rattle.board.specs.Own.{order_answer, OwnEntry, entry_reset, entry_cycle, entry_order, entry_word_order, entry_long_order, entry_query, entry_status, entry_take, entry_close, Answer, join, gate_after, entry_answer, gate_after_list, gate_by_own_list}
-use Rattle.board.specs.Acts.{act_answer, is_gate_counted, waiting_gate, State, gate_of, Act, act_command, act_write, act_read, act_cycle, act_reset, act_take, act_close, Transition, refuse, wait, enter, multi_update, refuse_value, give, cycle_both, reset_both, transition, state_past_port, next_state, state_after_act, entries}
+use Rattle.board.specs.Own.{order_answer, OwnEntry, entry_reset, entry_cycle, entry_order, entry_word_order, entry_long_order, entry_query, entry_status, entry_take, entry_close, entry_collect, Answer, join, gate_after, entry_answer, gate_after_list, gate_by_own_list}
+use Rattle.board.specs.Acts.{act_answer, is_gate_counted, waiting_gate, State, gate_of, Act, act_command, act_write, act_read, act_cycle, act_reset, act_take, act_close, act_collect, Transition, refuse, wait, enter, multi_update, refuse_value, give, cycle_both, reset_both, transition, state_past_port, next_state, state_after_act, entries}
 use Rattle.board.specs.Runs.{axis_pair, state_after, given_pairs, given_pairs_after}
 use Rattle.board.specs.Isolation.{own_list, answer_to, own_answers}
 use Rattle.board.proofs.Tables.{by_two}
-use Rattle.board.proofs.Transitions.{Ordinary, by_one, by_if, by_step}
+use Rattle.board.proofs.Transitions.{Ordinary, collect_transition, by_one, by_if, by_step}
 
 gate_after_list-++ : (es ds : List OwnEntry) (g : Gate) → gate_after_list (es ++ ds) g ≡ gate_after_list es (gate_after_list ds g)
 gate_after_list-++ [] ds g = refl
@@ -74,6 +75,7 @@ answers_are s (enter j e) k l = go (eqb j k) refl
     at (entry_status w) = refl
     at entry_take = refl
     at (entry_close w) = refl
+    at entry_collect = refl
 
     go : (b : Bool) → eqb j k ≡ b → map (answer_to s (enter j e)) (cond b (e ∷ []) []) ≡ entry_answers k (cond b (e ∷ []) []) (gate_of s k)
     go true h = ap (λ n. answer_to s (enter n e) e ∷ []) (eqb-true j k h) ∙ ap (λ x. x ∷ []) (at e)
@@ -126,3 +128,10 @@ displayed k l (act_close j w ∷ h) = displayed k l h ∙ sym (by_slip (gate_of 
     by_slip : (t : Bool) → display (entries k (cond t (enter j (entry_close w)) (refuse NoSlip)) ++ own_list k h) ≡ display (own_list k h)
     by_slip true = by_one (displays (own_list k h)) (eqb j k) (entry_close w) refl
     by_slip false = refl
+displayed k l (act_collect n lent ∷ h) =
+    displayed k l h ∙ sym (by_tests (is_gate n) (has_room n (gate_of (state_after h) (n - 1)) lent))
+  where
+    by_tests : (a b : Bool) → display (entries k (collect_transition n a b) ++ own_list k h) ≡ display (own_list k h)
+    by_tests true true = by_one (displays (own_list k h)) (eqb (n - 1) k) entry_collect refl
+    by_tests true false = refl
+    by_tests false b = refl

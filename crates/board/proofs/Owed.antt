@@ -1,83 +1,116 @@
 -- What an act owes, from its answer, its state and its pairs.
-use Rattle.std.proofs.Common.{◌≡◌, ℕ, Bool, true, false, cond, ltb, ℤ, Some, None, Option, sym, refl, ap, ◌∙◌, subst, []}
+use Rattle.std.proofs.Common.{◌≡◌, ℕ, ◌-◌, Bool, true, false, cond, ltb, ℤ, Some, None, Option, sym, refl, ap, ◌∙◌, subst, []}
 use Rattle.stage.specs.declared.Stage.{Ghosts}
-use Rattle.stage.specs.Pairs.{Pair, Pairs, pairs_after_show}
+use Rattle.ring.specs.Listing.{Listing}
+use Rattle.stage.specs.Pairs.{Pair, Pairs, pairs_after_show, is_gate}
 use Rattle.gate.specs.Cycles.{gate_phases}
 use Rattle.board.specs.declared.command.Command.{Command}
 use Rattle.board.specs.declared.command.Command.TheVariants.{Status, Ask, Now, Word, Long, MultiUpdate}
 use Rattle.board.specs.declared.port.Port.{Port}
 use Rattle.board.specs.declared.port.Port.TheVariants.{Idle, TakingWord, TakingHigh, TakingLow, TakingGates, Giving}
 use Rattle.board.specs.declared.refusal.Refusal.{Refusal}
-use Rattle.board.specs.declared.refusal.Refusal.TheVariants.{OutOfRange}
+use Rattle.board.specs.declared.refusal.Refusal.TheVariants.{OutOfRange, NoSlip}
+use Rattle.board.specs.declared.collect.EventRecord.{EventRecord}
+use Rattle.board.specs.Collects.{has_room}
 use Rattle.board.specs.declared.board.Board.{Board}
-use Rattle.board.specs.Own.{entry_word_order, entry_long_order, Answer, answer_refused, order_answer}
-use Rattle.board.specs.Acts.{State, state_of, gate_of, entries, Act, act_command, act_write, act_read, act_cycle, act_reset, Transition, refuse, enter, multi_update, refuse_value, step_transition, transition, state_past_port, next_state, transition_answer, act_answer, state_after_act, answer}
+use Rattle.board.specs.Own.{OwnEntry, entry_status, entry_take, entry_close, Answer, answer_refused, order_answer, entry_answer}
+use Rattle.board.specs.Acts.{State, state_of, gate_of, waiting_gate, named_gate, entries, Act, act_command, act_write, act_read, act_cycle, act_reset, act_take, act_close, act_collect, Transition, refuse, enter, multi_update, refuse_value, entry_transition, step_transition, transition, state_past_port, next_state, transition_answer, act_answer, state_after_act, answer}
 use Rattle.board.specs.Commands.{command_of}
 use Rattle.board.specs.Ports.{port_after_command, command_step, port_after_write, write_step, port_after_read, read_step}
 use Rattle.board.specs.Owners.{SetsCurrent}
+use Rattle.board.proofs.Transitions.{collect_transition}
 use Rattle.board.proofs.Owners.{no_entry, other_gate, spared_gate, turns}
-use Rattle.board.specs.Runs.{axis_pair, state_after, is_stage_act, given_pairs, given_pairs_after, quantized_pairs, shown_pairs, Performs}
+use Rattle.board.specs.Runs.{axis_pair, state_after, closes_packet, is_stage_act, given_pairs, given_pairs_after, quantized_pairs, shown_pairs, Performs}
 
+-- an order that is refused for its value is refused with 5
 out_of_range : (fits : Bool) (e : Refusal) → act_answer (order_answer fits) ≡ answer_refused e → e ≡ OutOfRange
 out_of_range true e h = cc
 out_of_range false e h = cc
 
--- an act that is refused, but for its value, leads nowhere
-next_state_still : (s : State) (m : Transition) (e : Refusal) → transition_answer s m ≡ answer_refused e → (e ≡ OutOfRange → ⊥)
-    → next_state s m ≡ s
-next_state_still s (refuse r) e h other = refl
-next_state_still s (enter j (entry_word_order o w)) e h other = absurd (other (out_of_range _ e h))
-next_state_still s (enter j (entry_long_order o a b)) e h other = absurd (other (out_of_range _ e h))
-next_state_still s refuse_value e h other = absurd (other cc)
-next_state_still s m e h other = cc
+-- a refusal where no entry comes about, whatever gate is meant
+entry_refused : (s : State) (k : Option ℕ) (x : OwnEntry) (e : Refusal) → ((j : ℕ) → act_answer (entry_answer j (gate_of s j) x) ≡ answer_refused e → ⊥)
+    → transition_answer s (entry_transition k x) ≡ answer_refused e → entry_transition k x ≡ refuse e
+entry_refused s (Some j) x e done h = absurd (done j h)
+entry_refused s None x e done h = cc
 
--- what comes to the port and is refused, but for its value, leaves the port as it stood
-command_still : (s : State) (p : Port) (c : Option Command) (e : Refusal)
-    → transition_answer s (step_transition s (command_step p c)) ≡ answer_refused e → port_after_command p c ≡ p
-command_still s Idle (Some (Status w)) e h = refl
-command_still s Idle (Some (Ask q)) e h = refl
-command_still s Idle (Some (Now o)) e h = refl
-command_still s Idle (Some (Word o)) e h = cc
-command_still s Idle (Some (Long o)) e h = cc
-command_still s Idle (Some MultiUpdate) e h = cc
-command_still s Idle None e h = refl
-command_still s (TakingWord o) c e h = refl
-command_still s (TakingHigh o) c e h = refl
-command_still s (TakingLow o high) c e h = refl
-command_still s TakingGates c e h = refl
-command_still s (Giving w t) c e h = refl
+-- what comes to the port and is refused, but a write for its value, leads nowhere and leaves the port as it stood
+record LeadsNowhere (s : State) (m : Transition) (e : Refusal) (before after : Port) : Type 0 where
+  pub refuses : m ≡ refuse e
+  pub port : after ≡ before
 
-write_still : (s : State) (p : Port) (w : ℕ) (e : Refusal) → transition_answer s (step_transition s (write_step p w)) ≡ answer_refused e
-    → (e ≡ OutOfRange → ⊥) → port_after_write p w ≡ p
-write_still s Idle w e h other = refl
-write_still s (TakingWord o) w e h other = absurd (other (out_of_range _ e h))
-write_still s (TakingHigh o) w e h other = cc
-write_still s (TakingLow o high) w e h other = absurd (other (out_of_range _ e h))
-write_still s TakingGates w e h other = absurd (other (go (ltb w 4) h))
+command_refused : (s : State) (p : Port) (c : Option Command) (e : Refusal)
+    → transition_answer s (step_transition s (command_step p c)) ≡ answer_refused e
+    → LeadsNowhere s (step_transition s (command_step p c)) e p (port_after_command p c)
+command_refused s Idle (Some (Status w)) e h = record { refuses = entry_refused s (named_gate s w) (entry_status w) e (λ j g. cc) h; port = refl }
+command_refused s Idle (Some (Ask q)) e h = absurd cc
+command_refused s Idle (Some (Now o)) e h = absurd cc
+command_refused s Idle (Some (Word o)) e h = absurd cc
+command_refused s Idle (Some (Long o)) e h = absurd cc
+command_refused s Idle (Some MultiUpdate) e h = absurd cc
+command_refused s Idle None e h = record { refuses = cc; port = refl }
+command_refused s (TakingWord o) c e h = record { refuses = cc; port = refl }
+command_refused s (TakingHigh o) c e h = record { refuses = cc; port = refl }
+command_refused s (TakingLow o high) c e h = record { refuses = cc; port = refl }
+command_refused s TakingGates c e h = record { refuses = cc; port = refl }
+command_refused s (Giving w t) c e h = record { refuses = cc; port = refl }
+
+write_refused : (s : State) (p : Port) (w : ℕ) (e : Refusal) → transition_answer s (step_transition s (write_step p w)) ≡ answer_refused e
+    → (e ≡ OutOfRange → ⊥) → LeadsNowhere s (step_transition s (write_step p w)) e p (port_after_write p w)
+write_refused s Idle w e h other = record { refuses = cc; port = refl }
+write_refused s (TakingWord o) w e h other = absurd (other (out_of_range _ e h))
+write_refused s (TakingHigh o) w e h other = absurd cc
+write_refused s (TakingLow o high) w e h other = absurd (other (out_of_range _ e h))
+write_refused s TakingGates w e h other = absurd (other (go (ltb w 4) h))
   where
     go : (t : Bool) → transition_answer s (cond t (multi_update w) refuse_value) ≡ answer_refused e → e ≡ OutOfRange
     go true h = cc
     go false h = cc
-write_still s (Giving a t) w e h other = refl
+write_refused s (Giving a t) w e h other = record { refuses = cc; port = refl }
 
-read_still : (s : State) (p : Port) (e : Refusal) → transition_answer s (step_transition s (read_step p)) ≡ answer_refused e
-    → port_after_read p ≡ p
-read_still s Idle e h = refl
-read_still s (TakingWord o) e h = refl
-read_still s (TakingHigh o) e h = refl
-read_still s (TakingLow o high) e h = refl
-read_still s TakingGates e h = refl
-read_still s (Giving w t) e h = cc
+read_refused : (s : State) (p : Port) (e : Refusal) → transition_answer s (step_transition s (read_step p)) ≡ answer_refused e
+    → LeadsNowhere s (step_transition s (read_step p)) e p (port_after_read p)
+read_refused s Idle e h = record { refuses = cc; port = refl }
+read_refused s (TakingWord o) e h = record { refuses = cc; port = refl }
+read_refused s (TakingHigh o) e h = record { refuses = cc; port = refl }
+read_refused s (TakingLow o high) e h = record { refuses = cc; port = refl }
+read_refused s TakingGates e h = record { refuses = cc; port = refl }
+read_refused s (Giving w t) e h = absurd cc
 
-state_past_port_still : (s : State) (a : Act) (e : Refusal) → answer s a ≡ answer_refused e → (e ≡ OutOfRange → ⊥) → state_past_port s a ≡ s
-state_past_port_still s (act_command b) e h other = ap (λ p. record s { port = p }) (command_still s s.port (command_of b) e h)
-state_past_port_still s (act_write w) e h other = ap (λ p. record s { port = p }) (write_still s s.port w e h other)
-state_past_port_still s act_read e h other = ap (λ p. record s { port = p }) (read_still s s.port e h)
-state_past_port_still s a e h other = refl
+collect_refused : (s : State) (n : ℕ) (l : Listing EventRecord) (e : Refusal) → answer s (act_collect n l) ≡ answer_refused e
+    → transition s (act_collect n l) ≡ refuse e
+collect_refused s n l e = go (is_gate n) (has_room n (gate_of s (n - 1)) l)
+  where
+    go : (a b : Bool) → transition_answer s (collect_transition n a b) ≡ answer_refused e → collect_transition n a b ≡ refuse e
+    go true true h = absurd cc
+    go true false h = cc
+    go false b h = cc
 
-refused_still : (s : State) (a : Act) (e : Refusal) → answer s a ≡ answer_refused e → (e ≡ OutOfRange → ⊥) → state_after_act s a ≡ s
+refused : (s : State) (a : Act) (e : Refusal) → answer s a ≡ answer_refused e → closes_packet a e ≡ false
+    → LeadsNowhere s (transition s a) e s.port (state_past_port s a).port
+refused s (act_command b) e h other = command_refused s s.port (command_of b) e h
+refused s (act_write w) e h other = write_refused s s.port w e h (λ five. let g : true ≡ false = ap (closes_packet (act_write w)) (sym five) ∙ other in cc)
+refused s act_read e h other = read_refused s s.port e h
+refused s act_take e h other = record { refuses = entry_refused s (waiting_gate s) entry_take e (λ j g. cc) h; port = refl }
+refused s (act_close k w) e h other = record { refuses = go (gate_of s k).slip h; port = refl }
+  where
+    go : (b : Bool) → transition_answer s (cond b (enter k (entry_close w)) (refuse NoSlip)) ≡ answer_refused e
+        → cond b (enter k (entry_close w)) (refuse NoSlip) ≡ refuse e
+    go true h = absurd cc
+    go false h = cc
+refused s (act_collect n l) e h other = record { refuses = collect_refused s n l e h; port = refl }
+refused s (act_cycle i j) e h other = absurd cc
+refused s act_reset e h other = absurd cc
+
+refused_still : (s : State) (a : Act) (e : Refusal) → answer s a ≡ answer_refused e → closes_packet a e ≡ false → state_after_act s a ≡ s
 refused_still s a e h other =
-    ap (λ z. next_state z (transition s a)) (state_past_port_still s a e h other) ∙ next_state_still s (transition s a) e h other
+    let r = refused s a e h other in
+    ap (next_state (state_past_port s a)) r.refuses ∙ past s a r.port
+  where
+    past : (s : State) (a : Act) → (state_past_port s a).port ≡ s.port → state_past_port s a ≡ s
+    past s (act_command b) e = ap (λ p. record s { port = p }) e
+    past s (act_write w) e = ap (λ p. record s { port = p }) e
+    past s act_read e = ap (λ p. record s { port = p }) e
+    past s a e = refl
 
 -- an act that is refused does not reach the stage
 refused_off : (s : State) (a : Act) (e : Refusal) → answer s a ≡ answer_refused e → is_stage_act a ≡ false

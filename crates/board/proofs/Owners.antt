@@ -1,10 +1,11 @@
 -- Whose an act is: what stands in an own list belongs there, and what belongs there stands in it.
-use Rattle.std.proofs.Common.{◌≡◌, ◌≢◌, ℕ, zero, suc, ◌<◌, Bool, true, false, cond, eqb, ltb, ◌⊎◌, inl, inr, List, [], ◌∷◌, ◌++◌, length, Some, None, Option, Ok, Err, Result, sym, refl, ap, ◌∙◌, subst, arith, eqb-true}
+use Rattle.std.proofs.Common.{◌≡◌, ◌≢◌, ℕ, zero, suc, ◌+◌, ◌-◌, ◌<◌, Bool, true, false, cond, eqb, ltb, ◌⊎◌, inl, inr, List, [], ◌∷◌, ◌++◌, length, Some, None, Option, Ok, Err, Result, sym, refl, ap, ◌∙◌, subst, arith, eqb-true}
 use Rattle.std.proofs.lemmas.Bool.{eq-eqb, lt-ltb, ltb-true}
 use Rattle.gate.specs.declared.gate.Gate.{Gate}
 use Rattle.gate.specs.declared.orders.Order.TheVariants.{Update}
 use Rattle.gate.specs.Events.{bit}
 use Rattle.gate.specs.Queries.{is_calling}
+use Rattle.stage.specs.Pairs.{is_gate}
 use Rattle.board.specs.declared.command.Command.{Command}
 use Rattle.board.specs.declared.command.Command.TheVariants.{Status, Ask, Now, Word, Long, MultiUpdate}
 use Rattle.board.specs.declared.command.GateName.{GateName}
@@ -17,16 +18,17 @@ use Rattle.board.specs.declared.port.Step.{Step}
 use Rattle.board.specs.declared.port.Step.TheVariants as step
 use Rattle.board.specs.declared.refusal.Refusal.{Refusal}
 use Rattle.board.specs.declared.refusal.Refusal.TheVariants.{NoSlip}
+use Rattle.board.specs.Collects.{has_room}
 use Rattle.board.specs.Commands.{command_of}
 use Rattle.board.specs.Ports.{command_step, write_step, read_step, start_step, port_step}
-use Rattle.board.specs.Own.{OwnEntry, entry_reset, entry_cycle, entry_order, entry_word_order, entry_long_order, entry_query, entry_status, entry_take, entry_close, gate_after_list}
-use Rattle.board.specs.Acts.{State, gate_of, Act, act_command, act_write, act_read, act_cycle, act_reset, act_take, act_close, is_gate_counted, named_gate, lowest_gate, is_waiting, caller, waiting_gate, enter, entry_transition, refuse, multi_update, refuse_value, step_transition, transition, current_after, entries, state_after_act}
+use Rattle.board.specs.Own.{OwnEntry, entry_reset, entry_cycle, entry_order, entry_word_order, entry_long_order, entry_query, entry_status, entry_take, entry_close, entry_collect, gate_after_list}
+use Rattle.board.specs.Acts.{State, gate_of, Act, act_command, act_write, act_read, act_cycle, act_reset, act_take, act_close, act_collect, is_gate_counted, named_gate, lowest_gate, is_waiting, caller, waiting_gate, enter, entry_transition, refuse, multi_update, refuse_value, step_transition, transition, current_after, entries, state_after_act}
 use Rattle.board.specs.Owners.{GivesCommand, IsLowest, IsNamed, Belongs, IsForeign, IsAtPort, SetsCurrent, GrowsByEntry}
 use Rattle.board.specs.Runs.{state_after}
 use Rattle.board.specs.Isolation.{own_list}
 use Rattle.board.proofs.Lists.{after_gate}
 use Rattle.board.proofs.Tables.{by_two}
-use Rattle.board.proofs.Transitions.{Ordinary, by_one, by_if, by_step}
+use Rattle.board.proofs.Transitions.{Ordinary, collect_transition, by_one, by_if, by_step}
 
 -- an entry that comes about where a test holds
 tested : (b : Bool) (x e : OwnEntry) → cond b (x ∷ []) [] ≡ e ∷ [] → (b ≡ true) × (x ≡ e)
@@ -141,6 +143,11 @@ gates_only p incoming.Read w e = go p e
     go TakingGates e = cc
     go (Giving a t) e = cc
 
+-- the axis of a gate and its number
+number_of : (n : ℕ) → is_gate n ≡ true → n ≡ n - 1 + 1
+number_of zero h = cc
+number_of (suc n) h = omega arith
+
 -- an act at a state, and what of it stands in the own list of gate k
 module _ (k : ℕ) (l : k < 2) (s : State) where
   by_command : (b : ℕ) (c : Option Command) (p : Port) (e : OwnEntry) → command_of b ≡ c → s.port ≡ p
@@ -202,6 +209,14 @@ module _ (k : ℕ) (l : k < 2) (s : State) where
       go true r h =
           entry_at k j (entry_close w) e (Belongs k s (act_close j w)) (λ n. (ap (λ i. act_close i w) (sym n), ap (λ i. (gate_of s i).slip) n ∙ r)) h
       go false r h = cc
+  belongs (act_collect n lent) e h = go (is_gate n) (has_room n (gate_of s (n - 1)) lent) refl refl h
+    where
+      go : (a b : Bool) → is_gate n ≡ a → has_room n (gate_of s (n - 1)) lent ≡ b → entries k (collect_transition n a b) ≡ e ∷ []
+          → Belongs k s (act_collect n lent) e
+      go true true known fits h =
+          entry_at k (n - 1) entry_collect e (Belongs k s (act_collect n lent)) (λ i. let is : n ≡ k + 1 = number_of n known ∙ ap (λ j. j + 1) (sym i) in (lent, ap (λ j. act_collect j lent) is, ap (λ j. has_room j (gate_of s k) lent) (sym is) ∙ (ap (λ j. has_room n (gate_of s j) lent) i ∙ fits))) h
+      go true false known fits h = cc
+      go false b known fits h = cc
 
   command_stands : (a : Act) (c : Command) → GivesCommand s a c
       → entries k (transition s a) ≡ entries k (step_transition s (start_step (Some c)))
@@ -231,6 +246,13 @@ module _ (k : ℕ) (l : k < 2) (s : State) where
   stands a (entry_close w) b =
       ap (λ x. entries k (transition s x)) b.0
       ∙ (ap (λ t. entries k (cond t (enter k (entry_close w)) (refuse NoSlip))) b.1 ∙ stands_at k k (entry_close w) refl)
+  stands a entry_collect (lent, is, fits) = ap (λ x. entries k (transition s x)) is ∙ collects k l fits
+    where
+      collects : (k : ℕ) → k < 2 → has_room (k + 1) (gate_of s k) lent ≡ true → entries k (transition s (act_collect (k + 1) lent)) ≡ entry_collect ∷ []
+      collects =
+          by_two (λ k. has_room (k + 1) (gate_of s k) lent ≡ true → entries k (transition s (act_collect (k + 1) lent)) ≡ entry_collect ∷ [])
+          (λ fits. ap (λ t. entries 0 (collect_transition 1 true t)) fits)
+          (λ fits. ap (λ t. entries 1 (collect_transition 2 true t)) fits)
 
   pub at_most_one : (a : Act) → AtMostOne (entries k (transition s a))
   at_most_one (act_command b) = by_step single k s (port_step s.port (incoming.Command b))
@@ -244,6 +266,12 @@ module _ (k : ℕ) (l : k < 2) (s : State) where
       go : (t : Bool) → AtMostOne (entries k (cond t (enter j (entry_close w)) (refuse NoSlip)))
       go true = by_one single (eqb j k) (entry_close w) (inr (entry_close w, refl))
       go false = inl refl
+  at_most_one (act_collect n lent) = go (is_gate n) (has_room n (gate_of s (n - 1)) lent)
+    where
+      go : (a b : Bool) → AtMostOne (entries k (collect_transition n a b))
+      go true true = by_one single (eqb (n - 1) k) entry_collect (inr (entry_collect, refl))
+      go true false = inl refl
+      go false b = inl refl
 
   -- an act that makes no entry leaves the gate's record as it was
   pub no_entry : (a : Act) → IsForeign k s a → entries k (transition s a) ≡ []
@@ -367,6 +395,12 @@ turns s a = record {
         go : (t : Bool) → current_after s.current (cond t (enter j (entry_close w)) (refuse NoSlip)) ≡ s.current
         go true = refl
         go false = refl
+    by (act_collect n lent) other foreign = go (is_gate n) (has_room n (gate_of s (n - 1)) lent)
+      where
+        go : (a b : Bool) → current_after s.current (collect_transition n a b) ≡ s.current
+        go true true = refl
+        go true false = refl
+        go false b = refl
 
 grown : (es ds : List OwnEntry) → AtMostOne es → (es ++ ds ≡ ds) ⊎ ((e : OwnEntry) × (es ++ ds ≡ e ∷ ds))
 grown es ds (inl n) = inl (ap (λ x. x ++ ds) n)

@@ -1,5 +1,5 @@
 -- What the transitions of acts enter in the own list of a gate, walked once.
-use Rattle.std.proofs.Common.{ℕ, Bool, true, false, cond, eqb, ltb, List, [], ◌∷◌, Some, None, Option, Ok, Err, Result}
+use Rattle.std.proofs.Common.{ℕ, ◌-◌, Bool, true, false, cond, eqb, ltb, List, [], ◌∷◌, Some, None, Option, Ok, Err, Result}
 use Rattle.gate.specs.declared.orders.Order.{Order}
 use Rattle.gate.specs.declared.orders.Order.TheVariants.{Update}
 use Rattle.gate.specs.declared.orders.WordOrder.{WordOrder}
@@ -9,8 +9,13 @@ use Rattle.board.specs.declared.command.GateName.{GateName}
 use Rattle.board.specs.declared.port.Step.{Step}
 use Rattle.board.specs.declared.port.Step.TheVariants as step
 use Rattle.board.specs.declared.refusal.Refusal.{Refusal}
-use Rattle.board.specs.Own.{OwnEntry, entry_order, entry_word_order, entry_long_order, entry_query, entry_status}
-use Rattle.board.specs.Acts.{State, is_gate_counted, named_gate, entry_transition, step_transition, multi_update, refuse_value, entries}
+use Rattle.board.specs.declared.refusal.Refusal.TheVariants.{OutOfRange, NoRoom}
+use Rattle.board.specs.Own.{OwnEntry, entry_order, entry_word_order, entry_long_order, entry_query, entry_status, entry_collect}
+use Rattle.board.specs.Acts.{State, Transition, refuse, enter, is_gate_counted, named_gate, entry_transition, step_transition, multi_update, refuse_value, entries}
+
+-- what a collect comes to, by what it is tested for
+abbrev pub collect_transition : ℕ → Bool → Bool → Transition
+collect_transition n known fits = cond known (cond fits (enter (n - 1) entry_collect) (refuse NoRoom)) (refuse OutOfRange)
 
 -- P holds of no entry, of each order alone and of each question alone
 pub record Ordinary (P : List OwnEntry → Type 0) : Type 0 where

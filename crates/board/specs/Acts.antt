@@ -1,5 +1,5 @@
 -- The acts on a board: where each leads, and what it answers and leaves.
-use Rattle.std.specs.Prelude.{ℕ, ◌/◌, ◌%◌, ◌<◌, Bool, false, cond, not, ◌&&◌, List, [], ◌∷◌, pos, Some, None, Ok, Err, Option, Result, ◌==◌, nat_lt, slice_index_or}
+use Rattle.std.specs.Prelude.{ℕ, ◌-◌, ◌/◌, ◌%◌, ◌<◌, Bool, false, cond, not, ◌&&◌, List, [], ◌∷◌, pos, Some, None, Ok, Err, Option, Result, ◌==◌, nat_lt, slice_index_or}
 use Rattle.std.proofs.Props.{props}
 use Rattle.gate.specs.declared.gate.Gate.{Gate}
 use Rattle.gate.specs.declared.inputs.Inputs.{Inputs}
@@ -10,6 +10,8 @@ use Rattle.gate.specs.Events.{no_events}
 use Rattle.wave.specs.declared.phases.MotorKind.TheVariants.{TwoPhase}
 use Rattle.gate.specs.Queries.{query_answer, is_calling, status_word}
 use Rattle.gate.specs.Sound.{IsSound}
+use Rattle.ring.specs.Listing.{Listing}
+use Rattle.stage.specs.Pairs.{is_gate}
 use Rattle.board.specs.declared.command.GateName.{GateName}
 use Rattle.board.specs.declared.command.GateName.TheVariants.{First, Second, Calling, Current}
 use Rattle.board.specs.declared.port.Port.{Port}
@@ -18,10 +20,12 @@ use Rattle.board.specs.declared.port.Incoming.TheVariants as incoming
 use Rattle.board.specs.declared.port.Step.{Step}
 use Rattle.board.specs.declared.port.Step.TheVariants as step
 use Rattle.board.specs.declared.refusal.Refusal.{Refusal}
-use Rattle.board.specs.declared.refusal.Refusal.TheVariants.{OutOfRange, NoCall, NoSlip}
+use Rattle.board.specs.declared.refusal.Refusal.TheVariants.{OutOfRange, NoCall, NoSlip, NoRoom}
 use Rattle.board.specs.declared.table.Table.{Table}
+use Rattle.board.specs.declared.collect.EventRecord.{EventRecord}
+use Rattle.board.specs.Collects.{has_room, with_new_records}
 use Rattle.board.specs.Ports.{port_after_incoming, port_step}
-use Rattle.board.specs.Own.{OwnEntry, entry_reset, entry_cycle, entry_order, entry_word_order, entry_long_order, entry_query, entry_status, entry_take, entry_close, Answer, answer_done, answer_refused, answer_word, answer_words, answer_slip, entry_answer, gate_after_list}
+use Rattle.board.specs.Own.{OwnEntry, entry_reset, entry_cycle, entry_order, entry_word_order, entry_long_order, entry_query, entry_status, entry_take, entry_close, entry_collect, Answer, answer_done, answer_refused, answer_word, answer_words, answer_slip, entry_answer, gate_after_list}
 
 -- a table, gate by gate; the current gate is 0 for gate 1 and 1 for gate 2
 pub record State : Type 0 where
@@ -42,6 +46,7 @@ blank_gate =
       actual = pos 0;
       breakpoint = record { mode = Off; point = 0; auto = false };
       events = no_events;
+      found = no_events;
       mask = 0;
       detectors = record { positive = false; negative = false };
       kind = TwoPhase;
@@ -64,6 +69,7 @@ pub data Act : Type 0 where
   act_reset : Act
   act_take : Act
   act_close : ℕ → ℕ → Act
+  act_collect : ℕ → Listing EventRecord → Act
 
 -- where an act leads, once the port and the gates that call are looked at: it is refused, a packet goes on, an entry for one gate comes
 -- about, UPDATEs are counted, a value fits nothing, a word is given, a cycle, a reset
@@ -123,6 +129,12 @@ transition s (act_cycle i j) = cycle_both i j
 transition s act_reset = reset_both
 transition s act_take = entry_transition (waiting_gate s) entry_take
 transition s (act_close k w) = cond (gate_of s k).slip (enter k (entry_close w)) (refuse NoSlip)
+transition s (act_collect n l) =
+    cond (is_gate n) (cond (has_room n (gate_of s (n - 1)) l) (enter (n - 1) entry_collect) (refuse NoRoom)) (refuse OutOfRange)
+
+-- the list that a collect is given, after it: with the records of what is new, if it is accepted, and else as it was
+abbrev pub list_after_collect : State → ℕ → Listing EventRecord → Listing EventRecord
+list_after_collect s n l = cond (is_gate n && has_room n (gate_of s (n - 1)) l) (with_new_records n (gate_of s (n - 1)) l) l
 
 -- the state with the port moved on by what an act brings to it
 abbrev pub state_past_port : State → Act → State

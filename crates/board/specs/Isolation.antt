@@ -4,7 +4,9 @@ use Rattle.std.specs.Int.{w32}
 use Rattle.std.proofs.Common.{to_z}
 use Rattle.stage.specs.declared.Stage.{Ghosts}
 use Rattle.gate.specs.declared.gate.Gate.{Gate}
+use Rattle.gate.specs.declared.events.Events.{Events}
 use Rattle.gate.specs.declared.inputs.Inputs.{Inputs}
+use Rattle.gate.specs.Events.{no_events}
 use Rattle.gate.specs.declared.orders.Order.{Order}
 use Rattle.gate.specs.declared.orders.Order.TheVariants.{Mode, Stop, Update}
 use Rattle.gate.specs.declared.orders.LongOrder.{LongOrder}
@@ -16,7 +18,7 @@ use Rattle.gate.specs.Profile.{first_profile}
 use Rattle.board.specs.declared.port.Port.{Port}
 use Rattle.board.specs.declared.port.Port.TheVariants.{Giving}
 use Rattle.board.specs.declared.board.Board.{Board}
-use Rattle.board.specs.Own.{OwnEntry, entry_reset, entry_cycle, entry_order, entry_long_order, entry_query, entry_status, Answer, answer_done, answer_words, join, gate_by_own_list}
+use Rattle.board.specs.Own.{OwnEntry, entry_reset, entry_cycle, entry_order, entry_long_order, entry_query, entry_status, entry_collect, Answer, answer_done, answer_words, join, gate_by_own_list}
 use Rattle.board.specs.Acts.{State, state_of, gate_of, Act, Transition, transition, entries, port_after, transition_answer}
 use Rattle.board.specs.Owners.{GrowsByEntry}
 use Rattle.board.specs.Runs.{state_after, axis_pair, IsReachedBy}
@@ -84,6 +86,13 @@ book (entry_order o ∷ es) = book_after_order o (book es)
 book (entry_long_order o high low ∷ es) = cond (is_long_in_range o (join high low)) (book_after_long o (join high low) (book es)) (book es)
 book (e ∷ es) = book es
 
+-- the event bits that were set at the last collect of an own list: none where none came since a reset
+abbrev pub bits_collected : List OwnEntry → Events
+bits_collected [] = no_events
+bits_collected (entry_reset ∷ es) = no_events
+bits_collected (entry_collect ∷ es) = (gate_by_own_list es).events
+bits_collected (e ∷ es) = bits_collected es
+
 -- two numbers are less than d apart
 pub record DifferByLessThan (d : ℕ) (x y : ℤ) : Type 0 where
   pub below : x <ℤ (y +ℤ pos d)
@@ -97,6 +106,10 @@ EachEntryBelongs = (k : ℕ) → k < 2 → (a : Act) → (h : List Act) → Grow
 module _ {S : Type 0} (m : Ghosts S) (b : Board S m) where
   abbrev pub FollowsBook : Type 0
   FollowsBook = (k : ℕ) → k < 2 → (h : List Act) → IsReachedBy m h b → (gate_of (state_of b.table) k).active ≡ (book (own_list k h)).latched
+
+  -- and the bits that each gate has as found are those that were set at the last collect of its own list
+  abbrev pub KeepsFound : Type 0
+  KeepsFound = (k : ℕ) → k < 2 → (h : List Act) → IsReachedBy m h b → (gate_of (state_of b.table) k).found ≡ bits_collected (own_list k h)
 
 module _ {S R : Type 0} (m : Ghosts S) (b : Board S m) (n : Ghosts R) (d : Board R n) where
   -- what two boards that are reached by h and by i have in common of gate k

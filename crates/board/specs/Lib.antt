@@ -1,6 +1,7 @@
 pub mod Refusals
 pub mod Commands
 pub mod Ports
+pub mod Collects
 pub mod Own
 pub mod Acts
 pub mod Owners

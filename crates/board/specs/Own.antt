@@ -8,15 +8,15 @@ use Rattle.gate.specs.declared.orders.LongOrder.{LongOrder}
 use Rattle.gate.specs.declared.queries.Query.{Query}
 use Rattle.gate.specs.Cycles.{cycle}
 use Rattle.gate.specs.Events.{keep}
-use Rattle.gate.specs.Gates.{fresh_gate, with_events, with_slip}
+use Rattle.gate.specs.Gates.{fresh_gate, with_events, with_found, with_slip}
 use Rattle.gate.specs.Orders.{run, run_word, run_long, is_word_in_range, is_long_in_range}
 use Rattle.gate.specs.Queries.{query_answer, status_word}
 use Rattle.board.specs.declared.command.GateName.{GateName}
 use Rattle.board.specs.declared.refusal.Refusal.{Refusal}
 use Rattle.board.specs.declared.refusal.Refusal.TheVariants.{OutOfRange}
 
--- an entry of a gate's own list: a reset, a cycle with the gate's inputs, a command with its words, a slip's take and its close;
--- a command stands by what it tells or asks the gate, which names it
+-- an entry of a gate's own list: a reset, a cycle with the gate's inputs, a command with its words, a slip's take and its close, a
+-- collect; a command stands by what it tells or asks the gate, which names it
 pub data OwnEntry : Type 0 where
   entry_reset : OwnEntry
   entry_cycle : Inputs → OwnEntry
@@ -27,6 +27,7 @@ pub data OwnEntry : Type 0 where
   entry_status : GateName → OwnEntry
   entry_take : OwnEntry
   entry_close : ℕ → OwnEntry
+  entry_collect : OwnEntry
 
 -- what is answered; a read command's answer is the words that it fixes
 pub data Answer : Type 0 where
@@ -51,6 +52,7 @@ gate_after g (entry_query q) = g
 gate_after g (entry_status w) = g
 gate_after g entry_take = with_slip g true
 gate_after g (entry_close w) = with_slip (with_events g (keep w g.events)) false
+gate_after g entry_collect = with_found g g.events
 
 -- an order that runs, or is refused for its value
 abbrev pub order_answer : Bool → Answer
@@ -71,6 +73,7 @@ entry_answer k g (entry_query q) = two_word_answer (query_answer q g)
 entry_answer k g (entry_status w) = answer_words (status_word k g) []
 entry_answer k g entry_take = answer_slip k
 entry_answer k g (entry_close w) = answer_done
+entry_answer k g entry_collect = answer_done
 
 -- a gate after the entries of a list, the newest first
 abbrev pub gate_after_list : List OwnEntry → Gate → Gate

@@ -1,19 +1,22 @@
 -- Whose an act is: which entry of a gate's own list it makes, by rules on the entry, and not by where the act leads.
-use Rattle.std.specs.Prelude.{◌≡◌, ◌≢◌, ℕ, ◌<◌, Bool, true, false, cond, ◌⊎◌, List, ◌∷◌, Some, ◌==◌}
+use Rattle.std.specs.Prelude.{◌≡◌, ◌≢◌, ℕ, ◌+◌, ◌<◌, Bool, true, false, cond, ◌⊎◌, List, ◌∷◌, Some, ◌==◌}
 use Rattle.gate.specs.declared.gate.Gate.{Gate}
 use Rattle.gate.specs.declared.inputs.Inputs.{Inputs}
 use Rattle.gate.specs.declared.orders.Order.{Order}
 use Rattle.gate.specs.declared.orders.Order.TheVariants.{Update}
 use Rattle.gate.specs.Events.{bit}
 use Rattle.gate.specs.Queries.{is_calling}
+use Rattle.ring.specs.Listing.{Listing}
 use Rattle.board.specs.declared.command.Command.{Command}
 use Rattle.board.specs.declared.command.Command.TheVariants.{Status, Ask, Now}
 use Rattle.board.specs.declared.command.GateName.{GateName}
 use Rattle.board.specs.declared.command.GateName.TheVariants.{First, Second, Calling, Current}
 use Rattle.board.specs.declared.port.Port.TheVariants.{Idle, TakingWord, TakingLow, TakingGates}
+use Rattle.board.specs.declared.collect.EventRecord.{EventRecord}
+use Rattle.board.specs.Collects.{has_room}
 use Rattle.board.specs.Commands.{command_of}
-use Rattle.board.specs.Own.{OwnEntry, entry_reset, entry_cycle, entry_order, entry_word_order, entry_long_order, entry_query, entry_status, entry_take, entry_close}
-use Rattle.board.specs.Acts.{State, gate_of, is_waiting, Act, act_command, act_write, act_cycle, act_reset, act_take, act_close}
+use Rattle.board.specs.Own.{OwnEntry, entry_reset, entry_cycle, entry_order, entry_word_order, entry_long_order, entry_query, entry_status, entry_take, entry_close, entry_collect}
+use Rattle.board.specs.Acts.{State, gate_of, is_waiting, Act, act_command, act_write, act_cycle, act_reset, act_take, act_close, act_collect}
 
 -- the code of a command comes to an idle port
 pub record GivesCommand (s : State) (a : Act) (c : Command) : Type 0 where
@@ -44,8 +47,8 @@ IsNamed s Calling k = IsLowest is_calling s k
 IsNamed s Current k = k ≡ s.current
 
 -- an act at a board in a state makes this entry in the own list of gate k: orders, packets with words and questions belong to the gate
--- that is current, a status to the gate that is named, a take and a close to the slip's, an UPDATE that is counted to each gate whose
--- bit is set, resets and cycles to both
+-- that is current, a status to the gate that is named, a take and a close to the slip's, a collect to the gate that it is of, an UPDATE
+-- that is counted to each gate whose bit is set, resets and cycles to both
 abbrev pub Belongs : ℕ → State → Act → OwnEntry → Type 0
 Belongs k s a entry_reset = a ≡ act_reset
 Belongs k s a (entry_cycle i) = (one : Inputs) × (two : Inputs) × (a ≡ act_cycle one two) × (i ≡ cond (k == 0) one two)
@@ -56,17 +59,19 @@ Belongs k s a (entry_query q) = GivesCommand s a (Ask q) × (k ≡ s.current)
 Belongs k s a (entry_status w) = GivesCommand s a (Status w) × IsNamed s w k
 Belongs k s a entry_take = (a ≡ act_take) × IsLowest is_waiting s k
 Belongs k s a (entry_close w) = (a ≡ act_close k w) × ((gate_of s k).slip ≡ true)
+Belongs k s a entry_collect = (l : Listing EventRecord) × (a ≡ act_collect (k + 1) l) × (has_room (k + 1) (gate_of s k) l ≡ true)
 
 -- no entry of gate k's own list comes of the act
 abbrev pub IsForeign : ℕ → State → Act → Type 0
 IsForeign k s a = (e : OwnEntry) → Belongs k s a e → ⊥
 
--- what comes to the port: all but a cycle, a reset, a take and a close
+-- what comes to the port: all but a cycle, a reset, a take, a close and a collect
 abbrev pub IsAtPort : Act → Type 0
 IsAtPort (act_cycle i j) = ⊥
 IsAtPort act_reset = ⊥
 IsAtPort act_take = ⊥
 IsAtPort (act_close k w) = ⊥
+IsAtPort (act_collect n l) = ⊥
 IsAtPort a = Unit {0}
 
 -- which gate is current after an act: gate 1 after a reset, the gate whose status is given, and else the one that was

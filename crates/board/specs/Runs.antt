@@ -11,7 +11,7 @@ use Rattle.board.specs.declared.board.Board.{Board}
 use Rattle.board.specs.declared.slip.Slip.{Slip}
 use Rattle.board.specs.Own.{Answer, answer_refused, answer_slip, answer_done}
 use Rattle.board.specs.Owners.{IsAtPort, IsForeign, SetsCurrent}
-use Rattle.board.specs.Acts.{State, state_of, gate_of, Act, act_cycle, act_reset, state_after_act, answer}
+use Rattle.board.specs.Acts.{State, state_of, gate_of, Act, act_write, act_cycle, act_reset, state_after_act, answer}
 
 abbrev pub answer_of_slip : Result Slip Refusal → Answer
 answer_of_slip (Ok s) = answer_slip s.axis
@@ -28,6 +28,11 @@ new_state = record { one = fresh_gate false; two = fresh_gate false; current = 0
 abbrev pub state_after : List Act → State
 state_after [] = new_state
 state_after (a ∷ h) = state_after_act (state_after h) a
+
+-- the one refusal that changes something: a write's 5 closes the packet
+abbrev pub closes_packet : Act → Refusal → Bool
+closes_packet (act_write w) OutOfRange = true
+closes_packet a e = false
 
 -- only a cycle and a reset reach the stage
 abbrev pub is_stage_act : Act → Bool
@@ -94,7 +99,7 @@ module _ {S : Type 0} (m : Ghosts S) where
     -- an act that does not reach the stage leaves it as it stood, with all that is on its wires
     pub stage : is_stage_act a ≡ false → c.stage ≡ b.stage
     -- a refusal but a write's 5 leaves everything as it stood
-    pub kept : (e : Refusal) → x ≡ answer_refused e → (e ≢ OutOfRange) → BoardUnchanged b c
+    pub kept : (e : Refusal) → x ≡ answer_refused e → closes_packet a e ≡ false → BoardUnchanged b c
     -- gate 1 is current after a reset, a gate after its status is asked, and else the one that was
     pub sets_current : SetsCurrent (state_of b.table) a (state_of c.table)
     -- an act that is no gate k's leaves its record and its pair as they were

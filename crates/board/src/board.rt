@@ -1,11 +1,13 @@
 ghost use Rattle.board.specs.Acts.{HasSoundTable, HasSoundTable-prop};
 
+use crate::collect::EventRecord;
 use crate::port::Port;
 use crate::refusal::Refusal;
 use crate::slip::Slip;
 use crate::table::Table;
 use gate::gate::Gate;
 use gate::inputs::Inputs;
+use ring::ring::Ring;
 use stage::Stage;
 
 pub mod compare;
@@ -20,9 +22,11 @@ pub struct Board<S: Stage + Drop> {
 }
 
 impl<S: Stage + Drop> Board<S> {
-    ghost use Rattle.std.specs.Prelude.{◌≡◌, true, false, [], Ok, Err, ◌-◌, IfSome, MatchOption};
+    ghost use Rattle.std.specs.Prelude.{◌≡◌, true, false, [], Ok, Err, OnOk, OnErr, ◌-◌, IfSome, MatchOption};
     ghost use Rattle.board.specs.Own.{answer_done};
-    ghost use Rattle.board.specs.Acts.{answer_of_unit, answer_of_word, act_command, act_write, act_read, act_cycle, act_reset, act_take, act_close, state_of, gate_of};
+    ghost use Rattle.board.specs.Acts.{answer_of_unit, answer_of_word, act_command, act_write, act_read, act_cycle, act_reset, act_take, act_close, act_collect, list_after_collect, state_of, gate_of};
+    ghost use Rattle.board.specs.Collects.{ListsEachOnce};
+    ghost use Rattle.board.specs.Isolation.{KeepsFound};
     ghost use Rattle.board.specs.Runs.{IsReachedBy, Performs, answer_of_slip, answer_of_close};
     ghost use Rattle.gate.specs.Sound.{IsSound};
     ghost use Rattle.stage.specs.Pairs.{is_gate, pair_of};
@@ -121,6 +125,24 @@ impl<S: Stage + Drop> Board<S> {
             }
             Err(refusal) => Err((refusal, slip)),
         }
+    }
+
+    /// Lists the events of gate 1 or 2 whose bits are set now and were not at its last accepted collect since a reset, the lowest place
+    /// first, and notes the bits as found; a record whose gate and event are those of the newest that the list holds by then is left off.
+    /// Refused, and nothing changes: `OutOfRange` for another gate, else `NoRoom` if the records don't all fit.
+    #[tactic(auto, unfolding(crate::specs::Acts::HasSoundTable))]
+    pub fn collect(&mut self, gate: u8, list: &mut Ring<'_, EventRecord>) -> Result<(), Refusal>
+        ensures performs { Performs S.Stage (act_collect gate list.old) (answer_of_unit result)
+            self.old self.new }
+        ensures lists { list.new ≡ list_after_collect (state_of self.old.table) gate list.old }
+        // No event is lost or doubled, and what is new is so since the last collect of the gate's own list.
+        ensures each { OnOk result
+            (ListsEachOnce gate (gate_of (state_of self.old.table) (gate - 1))
+            list.old.records list.new.records) }
+        ensures since { KeepsFound S.Stage self.old }
+        ensures refused { OnErr result (list.new ≡ list.old) }
+    {
+        self.table.collect(gate, list)
     }
 
     /// The phases A and B that the stage shows for a gate; (0, 0) for a gate other than 1 or 2.

@@ -2,6 +2,7 @@
 #![tactic(auto)]
 
 pub mod board;
+pub mod collect;
 pub mod command;
 mod port;
 pub mod refusal;

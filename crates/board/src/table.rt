@@ -2,9 +2,10 @@ ghost use Rattle.std.specs.Prelude.{◌≡◌, ◌<◌, Bool, cond, Some, None, 
 ghost use Rattle.std.specs.Fn.{FnReturnsAt};
 ghost use Rattle.gate.specs.Queries.{query_answer, status_word};
 ghost use Rattle.board.specs.Own.{join, entry_order, entry_word_order, entry_long_order, entry_query, entry_status};
-ghost use Rattle.board.specs.Acts.{state_of, gate_of, caller, waiting_gate, named_gate, enter, next_state, transition_answer, answer_of_unit, IsSoundTable, state_after_act, answer, entry_transition, multi_update, answer_of_word, answer_of_axis, act_command, act_write, act_read, act_cycle, act_reset, act_take, act_close};
+ghost use Rattle.board.specs.Acts.{state_of, gate_of, caller, waiting_gate, named_gate, enter, next_state, transition_answer, answer_of_unit, IsSoundTable, state_after_act, answer, entry_transition, multi_update, answer_of_word, answer_of_axis, list_after_collect, act_command, act_write, act_read, act_cycle, act_reset, act_take, act_close, act_collect};
 ghost use Rattle.gate.specs.Cycles.{gate_phases};
 
+use crate::collect::EventRecord;
 use crate::command::GateName;
 use crate::port::{Incoming, Port, Step};
 use crate::refusal::Refusal;
@@ -12,6 +13,7 @@ use gate::gate::Gate;
 use gate::inputs::Inputs;
 use gate::orders::{LongOrder, Order, WordOrder};
 use gate::queries::Query;
+use ring::ring::Ring;
 
 /// What a board holds beside its stage. A gate is named by its axis here, 0 or 1, as in a status word. The table is plain, so
 /// that one record can be lent and changed: a board's type carries the ranges, and here `IsSoundTable` stands in each contract.
@@ -284,6 +286,26 @@ impl Table {
             return Err(Refusal::NoSlip);
         }
         self.gates[i].close(word);
+        Ok(())
+    }
+
+    /// Lists the new events of a gate, by its number, as `Board::collect`.
+    pub fn collect(&mut self, gate: u8, list: &mut Ring<'_, EventRecord>) -> Result<(), Refusal>
+        requires { IsSoundTable self.old }
+        ensures answer { answer_of_unit result ≡
+            answer (state_of self.old) (act_collect gate list.old) }
+        ensures state { state_of self.new ≡
+            state_after_act (state_of self.old) (act_collect gate list.old) }
+        ensures lists { list.new ≡ list_after_collect (state_of self.old) gate list.old }
+        ensures sound { IsSoundTable self.new }
+    {
+        let axis = match gate {
+            1 => 0,
+            2 => 1,
+            _ => return Err(Refusal::OutOfRange),
+        };
+        EventRecord::list_new(gate, &self.gates[axis], list)?;
+        self.gates[axis].collect();
         Ok(())
     }
 }

@@ -5,9 +5,11 @@ ghost use Rattle.board.specs.Runs.{Performs, board_state, slip_axis};
 ghost use Rattle.desk.specs.Keeps.{has_kept_slips};
 
 use board::board::Board;
+use board::collect::EventRecord;
 use board::refusal::Refusal;
 use board::slip::Slip;
 use gate::inputs::Inputs;
+use ring::ring::Ring;
 use stage::Stage;
 
 pub mod elsewhere;
@@ -42,7 +44,7 @@ fn close_out<S: Stage + Drop>(board: &mut Board<S>, slip: Slip, word: u16)
 
 impl<S: Stage + Drop> Desk<S> {
     ghost use Rattle.std.specs.Prelude.{[], false, IfOk};
-    ghost use Rattle.board.specs.Acts.{answer_of_unit, answer_of_word, act_command, act_write, act_read, act_cycle, act_reset, act_take};
+    ghost use Rattle.board.specs.Acts.{answer_of_unit, answer_of_word, act_command, act_write, act_read, act_cycle, act_reset, act_take, act_collect, list_after_collect};
     ghost use Rattle.board.specs.Runs.{IsReachedBy};
     ghost use Rattle.desk.specs.Runs.{RunsCycles};
     ghost use Rattle.stage.specs.Pairs.{is_gate};
@@ -143,6 +145,16 @@ impl<S: Stage + Drop> Desk<S> {
         };
         close_out(&mut self.board, slip, word);
         true
+    }
+
+    /// Lists the new events of a gate in a list: `Board::collect`.
+    pub fn collect(&mut self, gate: u8, list: &mut Ring<'_, EventRecord>) -> Result<(), Refusal>
+        ensures performs { Performs S.Stage (act_collect gate list.old) (answer_of_unit result)
+            self.old.board self.new.board }
+        ensures lists { list.new ≡
+            list_after_collect (board_state self.old.board) gate list.old }
+    {
+        self.board.collect(gate, list)
     }
 
     /// Closes every slip that is still kept, with a word that clears nothing, and gives the board.

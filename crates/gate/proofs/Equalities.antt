@@ -55,4 +55,4 @@ clock_decides x y = search rules
 pub gate_decides : (x y : Gate) → Decides ((gate_eq.ghosts).eq x y) (x ≡ y)
 gate_decides x y =
     Decides-like _ (λ h. search rules) (λ e. search rules)
-    (Decides-and _ _ (profile_decides x.buffered y.buffered) (Decides-and _ _ (profile_decides x.active y.active) (Decides-and _ _ (powers_decides x.powers y.powers) (Decides-and _ _ (motion_decides x.motion y.motion) (Decides-and _ _ (Decides-int_eq x.actual y.actual) (Decides-and _ _ (breakpoint_decides x.breakpoint y.breakpoint) (Decides-and _ _ (events_decides x.events y.events) (Decides-and _ _ (Decides-eqb x.mask y.mask) (Decides-and _ _ (detectors_decides x.detectors y.detectors) (Decides-and _ _ (motor_kind_decides x.kind y.kind) (Decides-and _ _ (bool_decides x.slip y.slip) (clock_decides x.clock y.clock))))))))))))
+    (Decides-and _ _ (profile_decides x.buffered y.buffered) (Decides-and _ _ (profile_decides x.active y.active) (Decides-and _ _ (powers_decides x.powers y.powers) (Decides-and _ _ (motion_decides x.motion y.motion) (Decides-and _ _ (Decides-int_eq x.actual y.actual) (Decides-and _ _ (breakpoint_decides x.breakpoint y.breakpoint) (Decides-and _ _ (events_decides x.events y.events) (Decides-and _ _ (events_decides x.found y.found) (Decides-and _ _ (Decides-eqb x.mask y.mask) (Decides-and _ _ (detectors_decides x.detectors y.detectors) (Decides-and _ _ (motor_kind_decides x.kind y.kind) (Decides-and _ _ (bool_decides x.slip y.slip) (clock_decides x.clock y.clock)))))))))))))

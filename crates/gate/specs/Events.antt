@@ -1,5 +1,5 @@
 -- The event bits of a gate and their places.
-use Rattle.std.specs.Prelude.{ℕ, ◌+◌, ◌/◌, ◌%◌, ◌^◌, Bool, false, cond, ◌&&◌, ◌||◌, ◌==◌, List, [], ◌∷◌}
+use Rattle.std.specs.Prelude.{ℕ, ◌+◌, ◌/◌, ◌%◌, ◌^◌, Bool, false, cond, not, ◌&&◌, ◌||◌, ◌==◌, List, [], ◌∷◌, map}
 use Rattle.gate.specs.declared.events.Event.{Event}
 use Rattle.gate.specs.declared.events.Event.TheVariants.{MotionComplete, WrapAround, Breakpoint, PositiveLimit, NegativeLimit, CommandError}
 use Rattle.gate.specs.declared.events.Events.{Events}
@@ -15,11 +15,34 @@ place CommandError = 7
 abbrev pub no_events : Events
 no_events = record { complete = false; wrapped = false; breakpoint_reached = false; positive = false; negative = false; error = false }
 
+-- all events, the lowest place first
+abbrev pub all_events : List Event
+all_events = MotionComplete ∷ WrapAround ∷ Breakpoint ∷ PositiveLimit ∷ NegativeLimit ∷ CommandError ∷ []
+
+-- whether an event's bit is set
+abbrev pub is_set : Events → Event → Bool
+is_set e MotionComplete = e.complete
+is_set e WrapAround = e.wrapped
+is_set e Breakpoint = e.breakpoint_reached
+is_set e PositiveLimit = e.positive
+is_set e NegativeLimit = e.negative
+is_set e CommandError = e.error
+
 -- each event with its bit
 abbrev pub event_bits : Events → List (Event × Bool)
-event_bits e =
-    (MotionComplete, e.complete) ∷ (WrapAround, e.wrapped) ∷ (Breakpoint, e.breakpoint_reached) ∷ (PositiveLimit, e.positive)
-    ∷ (NegativeLimit, e.negative) ∷ (CommandError, e.error) ∷ []
+event_bits e = map (λ x. (x, is_set e x)) all_events
+
+-- the bits that are set in the one and not in the other
+abbrev pub events_without : Events → Events → Events
+events_without e other =
+    record {
+      complete = e.complete && not other.complete;
+      wrapped = e.wrapped && not other.wrapped;
+      breakpoint_reached = e.breakpoint_reached && not other.breakpoint_reached;
+      positive = e.positive && not other.positive;
+      negative = e.negative && not other.negative;
+      error = e.error && not other.error;
+    }
 
 -- whether a word holds 1 at a place
 abbrev pub bit : ℕ → ℕ → Bool

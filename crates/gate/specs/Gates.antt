@@ -24,6 +24,7 @@ fresh_gate slip =
       actual = pos 0;
       breakpoint = record { mode = Off; point = 0; auto = true };
       events = no_events;
+      found = no_events;
       mask = 0;
       detectors = record { positive = true; negative = true };
       kind = TwoPhase;
@@ -46,6 +47,9 @@ with_breakpoint g x = record g { breakpoint = x }
 
 abbrev pub with_events : Gate → Events → Gate
 with_events g x = record g { events = x }
+
+abbrev pub with_found : Gate → Events → Gate
+with_found g x = record g { found = x }
 
 abbrev pub with_mask : Gate → ℕ → Gate
 with_mask g x = record g { mask = x }

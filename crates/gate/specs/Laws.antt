@@ -9,7 +9,7 @@ use Rattle.gate.specs.declared.queries.Query.{Query}
 use Rattle.gate.specs.declared.queries.Query.TheVariants.{Destination, Velocity, Acceleration}
 use Rattle.gate.specs.Clock.{clock_tick, time}
 use Rattle.gate.specs.Cycles.{is_at_rest, is_condition_met, gate_phases, is_tripping}
-use Rattle.gate.specs.Queries.{query_answer, is_calling, status_word}
+use Rattle.gate.specs.Queries.{query_answer, is_calling, new_events, status_word}
 
 -- a gate never runs faster than it did or than its velocity register says, and unless it halts its velocity changes by at most the
 -- acceleration; the registers are those that the move went by
@@ -39,6 +39,7 @@ pub record SameAnswersBut (named : Option Query) (g h : Gate) : Type 0 where
   pub answers : (q : Query) → named ≢ Some q → query_answer q h ≡ query_answer q g
   pub status : (axis : ℕ) → status_word axis h ≡ status_word axis g
   pub calls : is_calling h ≡ is_calling g
+  pub new_bits : new_events h ≡ new_events g
   pub phases : gate_phases h ≡ gate_phases g
 
 -- the one question that sees the register that is loaded, if one does

@@ -8,7 +8,8 @@ use Rattle.gate.specs.declared.queries.Query.{Query}
 use Rattle.gate.specs.declared.queries.Query.TheVariants.{Destination, Velocity, Acceleration, TargetPosition, TargetVelocity, ActualPosition, ClockTime}
 use Rattle.gate.specs.Clock.{time}
 use Rattle.gate.specs.Cycles.{is_at_rest}
-use Rattle.gate.specs.Events.{events_word, has_bit_in, weight}
+use Rattle.gate.specs.declared.events.Events.{Events}
+use Rattle.gate.specs.Events.{events_word, has_bit_in, events_without, weight}
 
 -- the number that answers, signed ones in two's complement
 abbrev pub query_answer : Query → Gate → ℕ
@@ -34,3 +35,7 @@ status_word axis g = events_word g.events + weight (not (is_at_rest g)) in_motio
 -- an event bit is set whose place in the mask holds 1
 abbrev pub is_calling : Gate → Bool
 is_calling g = has_bit_in g.mask g.events
+
+-- the event bits that are set and were not at the last collect
+abbrev pub new_events : Gate → Events
+new_events g = events_without g.events g.found

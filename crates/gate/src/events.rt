@@ -1,5 +1,5 @@
 ghost use Rattle.std.specs.Prelude.{◌≡◌, ◌<◌};
-ghost use Rattle.gate.specs.Events.{event_bits, bit, place, no_events, events_word, keep, has_bit_in, weight};
+ghost use Rattle.gate.specs.Events.{event_bits, bit, place, no_events, events_word, keep, has_bit_in, is_set, events_without, weight};
 
 /// What a gate notes by a bit, each with its place.
 #[derive(Clone, Copy, PartialEq, Eq, Debug)]
@@ -13,6 +13,16 @@ pub enum Event {
 }
 
 impl Event {
+    /// All events, the lowest place first.
+    pub const ALL: [Event; 6] = [
+        Event::MotionComplete,
+        Event::WrapAround,
+        Event::Breakpoint,
+        Event::PositiveLimit,
+        Event::NegativeLimit,
+        Event::CommandError,
+    ];
+
     /// The place of the event's bit in a status word, in a mask and in a word that clears.
     pub fn place(self) -> u8
         ensures is { result ≡ place self }
@@ -67,6 +77,34 @@ impl Events {
             (Event::NegativeLimit, self.negative),
             (Event::CommandError, self.error),
         ]
+    }
+
+    /// Whether the event's bit is set.
+    pub fn is_set(&self, event: Event) -> bool
+        ensures { result ≡ is_set self.now event }
+    {
+        match event {
+            Event::MotionComplete => self.complete,
+            Event::WrapAround => self.wrapped,
+            Event::Breakpoint => self.breakpoint_reached,
+            Event::PositiveLimit => self.positive,
+            Event::NegativeLimit => self.negative,
+            Event::CommandError => self.error,
+        }
+    }
+
+    /// The bits that are set here and not in the other.
+    pub fn without(&self, other: &Events) -> Events
+        ensures { result ≡ events_without self.now other.now }
+    {
+        Events {
+            complete: self.complete && !other.complete,
+            wrapped: self.wrapped && !other.wrapped,
+            breakpoint_reached: self.breakpoint_reached && !other.breakpoint_reached,
+            positive: self.positive && !other.positive,
+            negative: self.negative && !other.negative,
+            error: self.error && !other.error,
+        }
     }
 
     /// The bits at their places.

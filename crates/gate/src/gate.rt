@@ -1,6 +1,6 @@
 ghost use Rattle.std.specs.Prelude.{◌≡◌, ◌^◌, true, false, pos, ◌*ℤ◌, Decides};
 ghost use Rattle.motion.specs.Course.{IsWithin};
-ghost use Rattle.gate.specs.Gates.{fresh_gate, latch, halted_motion, gate_halted_at, with_command_error, with_events, with_slip, with_motion};
+ghost use Rattle.gate.specs.Gates.{fresh_gate, latch, halted_motion, gate_halted_at, with_command_error, with_events, with_found, with_slip, with_motion};
 ghost use Rattle.gate.specs.Events.{keep};
 ghost use Rattle.gate.specs.Sound.{IsSound};
 
@@ -71,6 +71,8 @@ pub struct Gate {
     pub actual: i32,
     pub breakpoint: Breakpoint,
     pub events: Events,
+    // the event bits that were set at the last collect
+    pub found: Events,
     // the interrupt mask, by the places of the event bits
     pub mask: u16,
     pub detectors: Detectors,
@@ -115,6 +117,7 @@ impl Gate {
                 auto: true,
             },
             events: Events::none(),
+            found: Events::none(),
             mask: 0,
             detectors: Detectors {
                 positive: true,
@@ -180,6 +183,14 @@ impl Gate {
     {
         self.events.keep(word);
         self.slip = false;
+    }
+
+    /// Notes the event bits as they stand as those that were set at the last collect.
+    pub fn collect(&mut self)
+        ensures is { self.new ≡ with_found self.old self.old.events }
+        ensures sound { IsSound self.old → IsSound self.new }
+    {
+        self.found = self.events;
     }
 
     /// Whether two records are equal in every field: the derived `==` says which test it makes, and this that the test decides equality.

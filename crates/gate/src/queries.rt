@@ -1,7 +1,8 @@
 ghost use Rattle.std.specs.Prelude.{◌≡◌, ◌<◌};
-ghost use Rattle.gate.specs.Queries.{query_answer, status_word, is_calling};
+ghost use Rattle.gate.specs.Queries.{query_answer, status_word, is_calling, new_events};
 ghost use Rattle.gate.specs.Sound.{IsSound};
 
+use crate::events::Events;
 use crate::gate::Gate;
 use motion::course::microsteps;
 
@@ -61,5 +62,12 @@ impl Gate {
         ensures { result ≡ is_calling self.now }
     {
         self.events.has_bit_in(self.mask)
+    }
+
+    /// The event bits that are set and were not at the last collect.
+    pub fn new_events(&self) -> Events
+        ensures { result ≡ new_events self.now }
+    {
+        self.events.without(&self.found)
     }
 }

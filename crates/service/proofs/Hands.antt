@@ -3,31 +3,20 @@ use Rattle.std.proofs.Common.{◌≡◌, ℕ, true, false, [], ◌∷◌, Some, 
 use Rattle.stage.specs.declared.Stage.{Ghosts}
 use Rattle.board.specs.declared.board.Board.{Board}
 use Rattle.board.specs.declared.refusal.Refusal.{Refusal}
-use Rattle.board.specs.declared.refusal.Refusal.TheVariants.{NoCall}
 use Rattle.board.specs.declared.slip.Slip.{Slip}
-use Rattle.board.specs.Own.{Answer, answer_done, answer_refused, answer_slip, entry_take}
-use Rattle.board.specs.Acts.{State, act_take, act_close, answer, entry_transition, waiting_gate, transition_answer, state_of}
+use Rattle.board.specs.Own.{Answer, answer_done, answer_refused, answer_slip}
+use Rattle.board.specs.Acts.{act_take, act_close, waiting_gate, state_of}
 use Rattle.board.specs.Runs.{Performs, BoardUnchanged}
 use Rattle.board.specs.Sequences.{PerformsAll}
 use Rattle.board.proofs.Slips.{taken_gate, taken_none}
 use Rattle.board.proofs.Sequences.{performed_one, performed_then}
 use Rattle.service.specs.Turns.{Picks, Puts, service_acts}
 
--- a take is refused for want of a call alone
-no_call : (s : State) (e : Refusal) → answer_refused e ≡ answer s act_take → e ≡ NoCall
-no_call s e h = go (waiting_gate s) h
-  where
-    go : (o : Option ℕ) → answer_refused e ≡ transition_answer s (entry_transition o entry_take) → e ≡ NoCall
-    go (Some j) h = cc
-    go None h = cc
-
 module _ {S : Type 0} (m : Ghosts S) (b c : Board S m) where
   -- a take that is refused found no gate that waits, and changed nothing
   pub missed : (e : Refusal) → Performs m act_take (answer_refused e) b c → (waiting_gate (state_of b.table) ≡ None) × BoardUnchanged m b c
       × PerformsAll m (act_take ∷ []) b c
-  missed e d =
-      let call = no_call (state_of b.table) e d.answers in
-      (taken_none (state_of b.table) e d.answers, d.kept e refl (λ range. cc), performed_one m act_take (answer_refused e) b c d)
+  missed e d = (taken_none (state_of b.table) e d.answers, d.kept e refl refl, performed_one m act_take (answer_refused e) b c d)
 
   -- a slip that is taken and closed is that of the lowest-numbered gate that waits
   pub had_turn : (d : Board S m) (k w : ℕ) (x : Answer) → Performs m act_take (answer_slip k) b c → Performs m (act_close k w) x c d
