@@ -1,12 +1,14 @@
 #!/usr/bin/env python3
-"""The console's lots and scripts, worked out from docs/BOARD.md, docs/SCRIPT.md and docs/CONSOLE.md, over the gate of gate.py.
+"""The console's lots and scripts, worked out from docs/BOARD.md, docs/EVENTS.md, docs/SCRIPT.md and docs/CONSOLE.md, over the gate of
+gate.py.
 
     python3 tools/console.py lots > crates/console/stdout
     python3 tools/console.py crates/console_script/data/example.txt > crates/console_script/stdout
+    python3 tools/console.py lots|FILE [A,B [ROOM]]      over these stages, with so much room in each event list
 """
 import sys
 
-from gate import PART, Gate
+from gate import Gate
 
 STEPS = {"dac": 1, "pwm": 128}
 NO_WORDS = {
@@ -34,6 +36,36 @@ REGISTERS = {"SET_POS": "destination", "SET_VEL": "velocity", "SET_ACC": "accele
 
 class Refused(Exception):
     pass
+
+
+class Events:
+    """An event list, its oldest record first, and the places of the two readers that stand at it."""
+
+    def __init__(self, room):
+        self.room, self.records, self.listed = room, [], 0
+        self.places = {"panel": 0, "book": 0}
+
+    def add(self, records):
+        if len(self.records) + len(records) > self.room:
+            raise Refused(10)
+        self.records += records
+        self.listed += len(records)
+
+    def at(self, place):
+        """The record at the place and the next place, or none at the end."""
+        oldest = self.listed - len(self.records)
+        behind = (place - oldest) % 2**64
+        if behind > len(self.records):
+            behind = 0
+        return (self.records[behind], (oldest + behind + 1) % 2**64) if behind < len(self.records) else None
+
+    def read(self, reader):
+        """The reader's next record, or none at the end."""
+        record, self.places[reader] = self.at(self.places[reader]) or (None, self.places[reader])
+        return record
+
+    def remove(self):
+        return self.records.pop(0) if self.records else None
 
 
 def cut(x, step):
@@ -155,6 +187,17 @@ class Board:
         self.gates[gate - 1].keep(word)
         return True
 
+    def collect(self, gate, events):
+        if gate not in (1, 2):
+            raise Refused(5)
+        asked, new = self.gates[gate - 1], []
+        for place in asked.new_events():
+            newest = (events.records + new)[-1:]
+            if not newest or newest[0][:2] != (gate, place):
+                new.append((gate, place, asked.clock))
+        events.add(new)
+        asked.collect()
+
     def packet(self, name, value=0):
         """The whole packet of a mnemonic, up to its end or first refusal."""
         self.command(CODES[name])
@@ -188,7 +231,11 @@ def switches(letters):
     return [name for name in ("positive", "negative", "home") if name[0] in letters]
 
 
-def played(board, words):
+def told(record, *more):
+    return " ".join(str(x) for x in ("event", *record, *more)) if record else "none"
+
+
+def played(board, events, words):
     verb, rest = words[0], words[1:]
     if verb == "command":
         board.command(CODES[rest[0]] if rest[0] in CODES else number(rest[0]))
@@ -210,13 +257,27 @@ def played(board, words):
         return f"slip {board.take()}"
     elif verb == "close":
         return "ok" if board.close(int(rest[0]), number(rest[1]) % 65536) else "no slip"
+    elif verb == "collect":
+        board.collect(number(rest[0]), events)
+    elif verb in ("panel", "book"):
+        return told(events.read(verb))
+    elif verb == "event":
+        record, following = events.at(number(rest[0])) or (None, None)
+        return told(record, "next", following)
+    elif verb == "remove":
+        return told(events.remove())
     else:
         return board.packet(verb, number(rest[0]) % 2**32 if rest else 0)
     return "ok"
 
 
-def play(path):
-    boards, at = {"a": Board(1), "b": Board(128)}, "a"
+def sides(stages, room):
+    """Each board with its own event list, by its letter."""
+    return {side: (Board(STEPS[make]), Events(room)) for side, make in zip("ab", stages.split(","))}
+
+
+def play(path, stages, room):
+    boards, at = sides(stages, room), "a"
     for line in open(path):
         words = line.split("#")[0].split()
         if not words:
@@ -225,7 +286,7 @@ def play(path):
             at = words[1]
             continue
         try:
-            print(played(boards[at], words))
+            print(played(*boards[at], words))
         except Refused as refusal:
             print(f"refused {refusal}")
 
@@ -233,6 +294,9 @@ def play(path):
 LOTS_ONE = [(1200, 1310720, 65536, 20), (333, 983040, 40000, 170), (-77, 2000000, 123456, 340)]
 LOTS_TWO = [(700, 655360, 32768, 5), (1900, 1966080, 65536, 165), (40, 3000000, 200000, 325)]
 HEADING = "destination  velocity  acceleration  latched   moves    rests    target"
+EVENT_NAMES = {
+    0: "motion complete", 1: "wrap-around", 2: "breakpoint reached", 5: "positive limit", 6: "negative limit", 7: "command error",
+}
 
 
 def tell(board, answers, packets):
@@ -243,9 +307,19 @@ def tell(board, answers, packets):
             answers.append(f"refused {refusal}")
 
 
-def ordered(board, answers, select, lot):
+def collected(board, events, answers, gate):
+    try:
+        board.collect(gate, events)
+        answers.append("ok")
+    except Refused as refusal:
+        answers.append(f"refused {refusal}")
+
+
+def ordered(board, events, answers, gate, lot):
     destination, velocity, acceleration, start = lot
-    tell(board, answers, [(select,), ("SET_POS", destination), ("SET_VEL", velocity), ("SET_ACC", acceleration), ("SET_BRK_PNT", start), ("SET_TIME_BRK",)])
+    registers = [("SET_POS", destination), ("SET_VEL", velocity), ("SET_ACC", acceleration), ("SET_BRK_PNT", start)]
+    tell(board, answers, [(f"SET_{gate}",), ("RST_STATUS", 0), *registers, ("SET_TIME_BRK",)])
+    collected(board, events, answers, gate)
 
 
 def noted(seen, gate):
@@ -256,26 +330,32 @@ def noted(seen, gate):
     seen[2] = gate.target()
 
 
-def worked(board, two_works):
-    answers, rows = ([], []), ([], [])
+def read_on(events, reader, most):
+    return [record for record in (events.read(reader) for _ in range(most)) if record]
+
+
+def worked(board, events, two_works):
+    answers, rows, panel = ([], []), ([], []), []
     tell(board, answers[0], [("SET_1",), ("SET_MTR_CMD", 20000), ("SET_INTRPT_MASK", 1)])
     if two_works:
         tell(board, answers[1], [("SET_2",), ("SET_MTR_CMD", 12000), ("SET_INTRPT_MASK", 0)])
     for lots in zip(LOTS_ONE, LOTS_TWO):
         seen = [[None, None, 0], [None, None, 0]]
-        ordered(board, answers[0], "SET_1", lots[0])
-        if two_works:
-            ordered(board, answers[1], "SET_2", lots[1])
+        for k in range(1 + two_works):
+            ordered(board, events, answers[k], k + 1, lots[k])
         for _ in range(160):
             board.cycle([(max(-32768, min(32767, g.target() - g.actual)), ()) for g in board.gates])
             for k in (0, 1):
                 noted(seen[k], board.gates[k])
+        for k in range(1 + two_works):
+            collected(board, events, answers[k], k + 1)
+        panel.append(len(read_on(events, "panel", 8)))
         gate = board.take()
         answers[0].append(f"slip {gate}")
         answers[0].append("ok" if board.close(gate, 0xFFFE) else "no slip")
         for k in (0, 1):
             rows[k].append((lots[k], seen[k]))
-    return answers[0], rows
+    return answers[0], rows, panel
 
 
 def show(gate, rows):
@@ -284,15 +364,27 @@ def show(gate, rows):
         print(f"      {destination:>11}  {velocity:>8}  {acceleration:>12}  {start:>7}{moves:>8} {rests:>8}  {target:>8}")
 
 
-def lots(first, second):
-    a, b = Board(STEPS[first]), Board(STEPS[second])
-    one, rows = worked(a, True)
-    again, more = worked(b, False)
+def show_events(events, panel):
+    print("panel    events read after each lot:", *panel)
+    print("book     gate  event                    clock")
+    for gate, place, clock in read_on(events, "book", len(events.records)):
+        print(f"         {gate:>4}  {EVENT_NAMES[place]:<18}  {clock:>10}")
+    while events.remove():
+        pass
+
+
+def lots(stages, room):
+    (a, events), (b, others) = sides(stages, room).values()
+    one, rows, panel = worked(a, events, True)
+    again, more, other_panel = worked(b, others, False)
+    first, second = stages.split(",")
     print(f"board a, over {first}: lots through both gates")
     show(1, rows[0])
     show(2, rows[1])
+    show_events(events, panel)
     print(f"board b, over {second}: the same lots through gate 1, gate 2 idle")
     show(1, more[0])
+    show_events(others, other_panel)
     print("the two boards compared")
     print(f"gate 1: {sum(x == y for x, y in zip(one, again))} of {len(one)} answers alike")
     for k in (0, 1):
@@ -302,7 +394,8 @@ def lots(first, second):
 
 
 if __name__ == "__main__":
-    if sys.argv[1] == "lots":
-        lots(*(sys.argv[2].split(",") if len(sys.argv) > 2 else ("dac", "pwm")))
+    task, stages, room = sys.argv[1:] + ["dac,pwm", "64"][len(sys.argv) - 2 :]
+    if task == "lots":
+        lots(stages, int(room))
     else:
-        play(sys.argv[1])
+        play(task, stages, int(room))

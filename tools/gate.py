@@ -56,7 +56,7 @@ class Gate:
         self.P = self.V = self.actual = self.clock = self.point = self.mask = 0
         self.halted, self.rested, self.auto = False, True, True
         self.condition = "off"
-        self.events = set()
+        self.events, self.found = set(), set()
         self.armed = {"positive", "negative"}
         self.lead = 64
 
@@ -82,6 +82,13 @@ class Gate:
 
     def keep(self, word):
         self.events = {e for e in self.events if word >> PLACES[e] & 1}
+
+    def new_events(self):
+        """The places of the bits that are set and were not at the last collect, the lowest first."""
+        return sorted(PLACES[e] for e in self.events - self.found)
+
+    def collect(self):
+        self.found = set(self.events)
 
     def target(self):
         return self.P // PART

@@ -1,4 +1,7 @@
-//! A board of two stepper gates, as docs/BOARD.md, GATE.md, PHASES.md and STAGES.md define it.
+//! A board of two stepper gates, as docs/BOARD.md, GATE.md, EVENTS.md, PHASES.md and STAGES.md
+//! define it.
+
+use crate::event_list::{Event, EventList};
 
 #[cfg(test)]
 mod tests;
@@ -21,6 +24,7 @@ pub enum Refusal {
     OutOfRange,
     NoCall,
     NoSlip,
+    NoRoom = 10,
 }
 
 /// The places of the event bits.
@@ -104,6 +108,8 @@ pub struct Gate {
     pub point: u32,
     pub auto_update: bool,
     pub events: u8,
+    /// The events that were set at the last collect.
+    pub found: u8,
     pub mask: u16,
     pub positive_armed: bool,
     pub negative_armed: bool,
@@ -125,6 +131,7 @@ impl Gate {
         point: 0,
         auto_update: true,
         events: 0,
+        found: 0,
         mask: 0,
         positive_armed: true,
         negative_armed: true,
@@ -168,6 +175,31 @@ impl Gate {
 
     fn clear_events(&mut self, keep: u16) {
         self.events &= keep as u8;
+    }
+
+    pub fn new_events(&self) -> u8 {
+        self.events & !self.found
+    }
+
+    /// Lists the new events under the gate's number (1 or 2), all or none.
+    fn collect(&mut self, number: u8, list: &mut EventList) -> Result<(), Refusal> {
+        let mut new = self.new_events();
+        let end = list.end();
+        while new != 0 {
+            let event = Event {
+                gate: number,
+                place: new.trailing_zeros() as u8,
+                clock: self.clock,
+            };
+            new &= new - 1;
+            let repeated = list.newest().is_some_and(|newest| event.repeats(newest));
+            if !repeated && !list.push(event) {
+                list.take_back(end);
+                return Err(Refusal::NoRoom);
+            }
+        }
+        self.found = self.events;
+        Ok(())
     }
 
     fn latch(&mut self) {
@@ -703,5 +735,14 @@ impl<const STEP: i32> Board<STEP> {
         gate.clear_events(keep);
         gate.slip_out = false;
         Ok(())
+    }
+
+    /// Lists the new events of a gate (1 or 2).
+    pub fn collect(&mut self, gate: u8, list: &mut EventList) -> Result<(), Refusal> {
+        match gate {
+            1 => self.gates[0].collect(gate, list),
+            2 => self.gates[1].collect(gate, list),
+            _ => Err(Refusal::OutOfRange),
+        }
     }
 }

@@ -4,11 +4,13 @@ use std::collections::BTreeMap;
 use std::process::ExitCode;
 
 use crate::foreign::{self, Caller};
-use crate::lists::{self, List, Rng, Timed};
-use crate::replay::{Act, Entry, HEAD, LOOK, PAIRS, RECORD, replay};
+use crate::lists::{self, Came, List, Rng, Timed};
+use crate::replay::{Act, CAPACITIES, Entry, HEAD, LOOK, PAIRS, RECORD, replay};
 use crate::words;
 
 const ACTS_A_LIST: u64 = 2_000;
+/// One in so many lists is so many times as long, so that an event list goes round and round.
+const LONG: (u64, u64) = (64, 25);
 /// How many acts before a difference are shown.
 const BEFORE: usize = 12;
 /// What `out` and the bytes around both buffers hold before a call: no entry and no answer, or
@@ -46,7 +48,7 @@ impl Bench {
     fn whole_lists(&mut self, acts: u64, seed: u64) -> Result<(), String> {
         let mut index = 0;
         while self.tally.played() < acts {
-            let list = lists::edges(seed, index, ACTS_A_LIST);
+            let list = lists::edges(seed, index, acts_of(index));
             let guard = GUARDS[index as usize % GUARDS.len()];
             let code = self
                 .play(&list.bytes, list.room, guard)
@@ -93,6 +95,15 @@ impl Bench {
             }
         }
         Ok(())
+    }
+}
+
+fn acts_of(index: u64) -> u64 {
+    let (one_in, times) = LONG;
+    if index % one_in == one_in - 1 {
+        ACTS_A_LIST * times
+    } else {
+        ACTS_A_LIST
     }
 }
 
@@ -226,6 +237,9 @@ fn damaged(seed: u64) -> Vec<Damaged> {
     lists.first_bytes();
     lists.switches();
     lists.gates();
+    lists.event_lists();
+    lists.cut_event_lists();
+    lists.crowded_events();
     for index in 0..SHORT_LISTS {
         let short = lists::edges(seed, u64::MAX - index, SHORT);
         lists.cut(index, &short);
@@ -254,7 +268,7 @@ impl Lists {
     }
 
     fn first_bytes(&mut self) {
-        for (first, len) in (0..=u8::MAX).flat_map(|first| (0..8).map(move |len| (first, len))) {
+        for (first, len) in (0..=u8::MAX).flat_map(|first| (0..12).map(move |len| (first, len))) {
             let mut list = vec![0x02, first];
             list.resize(2 + len, 0x01);
             self.add(format!("byte {first:02x} and {len} more"), list, 400);
@@ -280,6 +294,63 @@ impl Lists {
         {
             let list = vec![0x02, first, gate, 0, 0, 0x02];
             self.add(format!("{first:02x} with gate {gate}"), list, 400);
+        }
+    }
+
+    /// Every gate of a collect, and every number of an event list.
+    fn event_lists(&mut self) {
+        for (at, n) in [0x00, 0x80]
+            .into_iter()
+            .flat_map(|at| (0..=u8::MAX).map(move |n| (at, n)))
+        {
+            let lists = [
+                vec![0x02, at | 0x0a, n, 3, 0x02],
+                vec![0x02, at | 0x0a, n, 4, 0x02],
+                vec![0x02, at | 0x0a, 1, n, 0x02],
+                vec![0x02, at | 0x0b, n, 0, 0, 0, 0, 0, 0, 0, 0, 0x02],
+                vec![0x02, at | 0x0c, n, 0x02],
+            ];
+            for list in lists {
+                let name = format!("{:02x} with {:02x} and {:02x}", list[1], list[2], list[3]);
+                self.add(name, list, 400);
+            }
+        }
+    }
+
+    /// Entries of an event list, or of none, cut off at every place.
+    fn cut_event_lists(&mut self) {
+        for (at, n) in [0x00, 0x80]
+            .into_iter()
+            .flat_map(|at| [0, 3, 4, 255].map(move |n| (at, n)))
+        {
+            let entries = [
+                vec![at | 0x0a, n, n],
+                vec![at | 0x0b, n, 0, 0, 0, 0, 0, 0, 0, 1],
+                vec![at | 0x0c, n],
+            ];
+            for (entry, len) in entries
+                .iter()
+                .flat_map(|entry| (1..entry.len()).map(move |len| (entry, len)))
+            {
+                let list = [&[0x02], &entry[..len]].concat();
+                self.add(
+                    format!("{:02x} with {n:02x} cut at {len}", entry[0]),
+                    list,
+                    400,
+                );
+            }
+        }
+    }
+
+    /// A command error that is collected, read and taken out, with every room for that.
+    fn crowded_events(&mut self) {
+        let error = [0x00, 0x62, 0x01, 0xff, 0xff];
+        let listed = [
+            0x0a, 1, 3, 0x0b, 3, 0, 0, 0, 0, 0, 0, 0, 0, 0x0c, 3, 0x0c, 3,
+        ];
+        let list = [&error[..], &listed].concat();
+        for room in 0..HEAD + 28 {
+            self.add(format!("events, room for {room}"), list.clone(), room);
         }
     }
 
@@ -319,7 +390,7 @@ impl Lists {
     fn random(&mut self, index: u64, seed: u64) {
         let mut rng = Rng::new(seed ^ 0x5eed, index);
         let len = rng.below(40) as usize;
-        let top = rng.pick(&[0x0a, 0x10, 0x100]);
+        let top = rng.pick(&[0x0d, 0x10, 0x100]);
         let list: Vec<u8> = (0..len)
             .map(|_| rng.below(top) as u8 | rng.pick(&[0, 0, 0x80]))
             .collect();
@@ -336,11 +407,15 @@ struct Tally {
     cycles: u64,
     /// By code.
     accepted_commands: BTreeMap<u8, u64>,
-    refusals: [u64; words::REFUSALS.len()],
+    /// By number.
+    refusals: [u64; 11],
     none_kept: u64,
     /// How often each bit of the event byte was newly seen.
     events: [u64; 8],
     breakpoints: [u64; words::BREAKPOINTS.len()],
+    came: [u64; Came::NAMES.len()],
+    /// By list.
+    listed: [u64; CAPACITIES.len()],
     stops: [u64; words::STOPS.len()],
 }
 
@@ -354,6 +429,8 @@ impl Tally {
 
     fn count(&mut self, list: &List, mut answers: &[u8]) {
         self.cycles += list.cycles;
+        add(&mut self.came, &list.came);
+        add(&mut self.listed, &list.listed);
         let mut rest = list.bytes.as_slice();
         let mut seen = [Seen::default(); 2];
         while let Ok((entry, after)) = Entry::decode(rest) {
@@ -371,7 +448,7 @@ impl Tally {
         self.acts[words::kind(act)] += 1;
         match (act, answer) {
             (Act::Command(code), 0x00) => *self.accepted_commands.entry(code).or_default() += 1,
-            (_, n @ 1..=7) => self.refusals[usize::from(n) - 1] += 1,
+            (_, number @ (1..=7 | 10)) => self.refusals[usize::from(number)] += 1,
             (_, 0x12) => self.none_kept += 1,
             _ => {}
         }
@@ -400,7 +477,9 @@ impl Tally {
             self.cycles
         );
         print_counts("acts", &words::ACTS, &self.acts);
-        print_counts("refusals", &words::REFUSALS, &self.refusals);
+        let names = words::REFUSALS.map(|(_, name)| name);
+        let counts = words::REFUSALS.map(|(number, _)| self.refusals[usize::from(number)]);
+        print_counts("refusals", &names, &counts);
         println!("closes without a slip: {}", self.none_kept);
         let names = words::EVENTS.map(|(_, name)| name);
         let counts = words::EVENTS.map(|(place, _)| self.events[place as usize]);
@@ -410,7 +489,17 @@ impl Tally {
         let count = |code| self.accepted_commands.get(&code).copied().unwrap_or(0);
         let counts = words::COMMANDS.map(|(code, _)| count(code));
         print_counts("commands accepted", &names, &counts);
+        for (title, kinds) in Came::GROUPS {
+            print_counts(title, &Came::NAMES[kinds.clone()], &self.came[kinds]);
+        }
+        print_counts("events listed", &words::LISTS, &self.listed);
         print_counts("damaged lists, by return", &words::STOPS, &self.stops);
+    }
+}
+
+fn add<const N: usize>(counts: &mut [u64; N], more: &[u64; N]) {
+    for (count, more) in counts.iter_mut().zip(more) {
+        *count += more;
     }
 }
 
@@ -433,13 +522,22 @@ mod tests {
         let tally = &bench.tally;
         let unplayed = tally.acts.iter().filter(|count| **count == 0).count();
         assert_eq!(unplayed, 1, "only looks are not counted as acts");
-        assert!(tally.refusals.iter().all(|count| *count > 0));
+        for (number, name) in words::REFUSALS {
+            assert!(tally.refusals[usize::from(number)] > 0, "{name}");
+        }
         assert!(tally.none_kept > 0);
         for (place, name) in words::EVENTS {
             assert!(tally.events[place as usize] > 0, "{name}");
         }
         assert_eq!(tally.breakpoints[0], 0);
         assert!(tally.breakpoints[1..].iter().all(|count| *count > 0));
+        for (name, count) in Came::NAMES.iter().zip(tally.came) {
+            assert!(count > 0, "{name}");
+        }
+        assert_eq!(tally.listed[0], 0);
+        for (capacity, listed) in CAPACITIES.iter().zip(tally.listed) {
+            assert!(listed >= 2 * tally.lists * *capacity as u64);
+        }
         assert_eq!(tally.accepted_commands.len(), words::COMMANDS.len());
         assert!(tally.stops.iter().all(|count| *count > 0));
     }

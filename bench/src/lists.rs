@@ -1,7 +1,11 @@
 //! Makes lists of acts: some that look for edges, to compare, and some to time.
 
+mod event_lists;
+
+pub use event_lists::Came;
+
 use crate::board::{Gate, Input, event};
-use crate::replay::{Act, Boards, Entry, HEAD, LOOK, Side};
+use crate::replay::{Act, Answer, Boards, CAPACITIES, EVENT_READ, Entry, HEAD, LOOK, Side};
 use crate::words::COMMANDS;
 
 const END: i64 = 1 << 30;
@@ -94,6 +98,10 @@ pub struct List {
     pub acts: u64,
     pub cycles: u64,
     pub room: usize,
+    /// What acts on event lists came to.
+    pub came: [u64; Came::NAMES.len()],
+    /// How many events were listed, by list.
+    pub listed: [u64; CAPACITIES.len()],
 }
 
 /// How often what is done in a list.
@@ -105,6 +113,8 @@ struct Mix {
     switching: u64,
     /// One in so many values is an edge.
     edges: u64,
+    /// One in so many acts on an event list is a remove.
+    removes: u64,
 }
 
 #[derive(Clone, Copy)]
@@ -117,6 +127,8 @@ enum Scene {
     Break,
     Limits,
     Slips,
+    Events,
+    Again,
     Stray,
     Cycles,
     Reset,
@@ -124,7 +136,7 @@ enum Scene {
 
 impl Scene {
     /// Each with its usual weight.
-    const ALL: [(Scene, u64); 11] = [
+    const ALL: [(Scene, u64); 13] = [
         (Scene::Packet, 16),
         (Scene::Edge, 8),
         (Scene::Move, 10),
@@ -133,6 +145,8 @@ impl Scene {
         (Scene::Break, 8),
         (Scene::Limits, 3),
         (Scene::Slips, 5),
+        (Scene::Events, 16),
+        (Scene::Again, 6),
         (Scene::Stray, 10),
         (Scene::Cycles, 10),
         (Scene::Reset, 1),
@@ -146,6 +160,7 @@ impl Mix {
             disorder: rng.pick(&[4, 16, 64, 256]),
             switching: rng.pick(&[4, 40, 400, 2_000, 2_000]),
             edges: rng.pick(&[2, 6, 20]),
+            removes: rng.pick(&[2, 3, 5, 20]),
         }
     }
 
@@ -169,6 +184,8 @@ struct Maker {
     looks: bool,
     boards: Boards,
     switches: [[Input; 2]; 2],
+    /// The places of two readers of each event list.
+    readers: [[u64; 2]; CAPACITIES.len()],
     list: List,
 }
 
@@ -190,21 +207,29 @@ impl Maker {
             looks,
             boards: Boards::new(),
             switches: [[Input::default(); 2]; 2],
+            readers: [[0; 2]; CAPACITIES.len()],
             list: List {
                 bytes: Vec::new(),
                 acts: 0,
                 cycles: 0,
                 room: HEAD,
+                came: [0; Came::NAMES.len()],
+                listed: [0; CAPACITIES.len()],
             },
         }
     }
 
     fn act(&mut self, side: Side, act: Act) {
+        self.answer(side, act);
+    }
+
+    /// Does an act, and says what it was answered.
+    fn answer(&mut self, side: Side, act: Act) -> Answer {
         let entry = Entry { side, act };
         entry.encode(&mut self.list.bytes);
-        self.boards.play(entry);
+        let answer = self.boards.play(entry);
         self.list.acts += 1;
-        self.list.room += 3;
+        self.list.room += EVENT_READ;
         self.list.cycles += match act {
             Act::Cycle(_) => 1,
             Act::Run(cycles) => u64::from(cycles),
@@ -216,6 +241,7 @@ impl Maker {
                 self.look(side.other());
             }
         }
+        answer
     }
 
     fn look(&mut self, side: Side) {
@@ -241,6 +267,8 @@ impl Maker {
             Scene::Break => self.break_scene(side),
             Scene::Limits => self.limits(side),
             Scene::Slips => self.slips(side),
+            Scene::Events => self.events(side),
+            Scene::Again => self.again(side),
             Scene::Stray => self.stray(side),
             Scene::Cycles => self.cycles(side),
             Scene::Reset => self.rare_reset(side),
@@ -724,7 +752,7 @@ impl Maker {
 
     /// An act without regard to the state of the port.
     fn stray(&mut self, side: Side) {
-        match self.rng.below(12) {
+        match self.rng.below(14) {
             0..=2 => {
                 let word = self.rng.edge_word();
                 self.act(side, Act::Write(word));
@@ -739,6 +767,7 @@ impl Maker {
                 self.command(side, code);
             }
             9 | 10 => self.slip_act(side),
+            11 | 12 => self.list_act(side),
             _ => {
                 if self.rng.one_in(6) {
                     self.act(side, Act::Reset);
@@ -757,8 +786,9 @@ pub struct Timed {
 }
 
 const TIMED_CYCLES: i64 = 60_000;
+const TIMED_ACTS: u64 = 60_000;
 
-/// The lists to be timed: cycles as acts of their own, and the same cycles in runs.
+/// The lists to be timed: cycles as acts of their own, the same cycles in runs, and other acts.
 pub fn timed() -> Vec<Timed> {
     type Fill = fn(&mut Timing);
     let kinds: [(&str, Fill); 4] = [
@@ -782,10 +812,15 @@ pub fn timed() -> Vec<Timed> {
             });
         }
     }
-    lists.push(Timed {
-        name: "commands".to_string(),
-        list: commands(),
-    });
+    let others = [
+        ("commands", commands()),
+        ("orders", orders()),
+        ("collects", collects()),
+    ];
+    lists.extend(others.map(|(name, list)| Timed {
+        name: name.to_string(),
+        list,
+    }));
     lists
 }
 
@@ -927,11 +962,32 @@ fn velocity(timing: &mut Timing) {
 fn commands() -> List {
     let mut maker = Maker::new(Rng::new(1, 2), false);
     maker.mix.disorder = 1_000;
-    while maker.list.acts < 60_000 {
+    while maker.list.acts < TIMED_ACTS {
         maker.packet(Side::A);
         maker.settle(Side::A);
         if maker.rng.one_in(20) {
             maker.cycle(Side::A);
+        }
+    }
+    maker.look(Side::A);
+    maker.list
+}
+
+/// Commands without words.
+fn orders() -> List {
+    alternate([0x09, 0x0a].map(Act::Command))
+}
+
+/// Collects of either gate, of which no event is new.
+fn collects() -> List {
+    alternate([1, 2].map(|gate| Act::Collect { gate, list: 3 }))
+}
+
+fn alternate(acts: [Act; 2]) -> List {
+    let mut maker = Maker::new(Rng::new(1, 3), false);
+    while maker.list.acts < TIMED_ACTS {
+        for act in acts {
+            maker.act(Side::A, act);
         }
     }
     maker.look(Side::A);

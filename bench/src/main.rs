@@ -2,6 +2,7 @@
 
 mod board;
 mod compare;
+mod event_list;
 mod foreign;
 mod lists;
 mod replay;

@@ -1,13 +1,21 @@
 //! Plays a list of acts against two new boards, as docs/REPLAY.md defines it.
 
 use crate::board::{Board, Gate, Input, Refusal, Registers};
+use crate::event_list::{Event, EventList};
 
 /// The bytes that say how long the answers are.
 pub const HEAD: usize = 8;
 /// A look with its first byte.
 pub const LOOK: usize = 1 + PAIRS + 2 * RECORD;
 pub const PAIRS: usize = 16;
-pub const RECORD: usize = 65;
+pub const RECORD: usize = 66;
+/// An event.
+pub const EVENT: usize = 6;
+/// An event that was read, with its first byte; no answer but a look is longer.
+pub const EVENT_READ: usize = 1 + EVENT + 8;
+
+/// How many events there is room for in each of the event lists.
+pub const CAPACITIES: [usize; 4] = [0, 1, 2, 7];
 
 /// The bit of an entry's first byte that says board b.
 const AT_B: u8 = 0x80;
@@ -27,7 +35,8 @@ impl Side {
     }
 }
 
-/// An act of a list. Gates are 0 and 1 here, and 1 and 2 in the bytes.
+/// An act of a list. Gates are 0 and 1 here, and 1 and 2 in the bytes; but that of a collect is
+/// any byte. `list` is one of the event lists.
 #[derive(Clone, Copy, Debug, PartialEq, Eq)]
 pub enum Act {
     Command(u8),
@@ -40,6 +49,9 @@ pub enum Act {
     CloseElsewhere { gate: usize, word: u16 },
     Look,
     Run(u16),
+    Collect { gate: u8, list: usize },
+    ReadAt { list: usize, place: u64 },
+    Remove { list: usize },
 }
 
 #[derive(Clone, Copy, Debug, PartialEq, Eq)]
@@ -94,6 +106,20 @@ impl Entry {
                 let (cycles, rest) = operands(rest)?;
                 (Act::Run(u16::from_be_bytes(cycles)), rest)
             }
+            0x0a => {
+                let ([gate, list], rest) = operands(rest)?;
+                let list = event_list(list)?;
+                (Act::Collect { gate, list }, rest)
+            }
+            0x0b => {
+                let (list, place, rest) = reading(rest)?;
+                (Act::ReadAt { list, place }, rest)
+            }
+            0x0c => {
+                let ([list], rest) = operands(rest)?;
+                let list = event_list(list)?;
+                (Act::Remove { list }, rest)
+            }
             _ => return Err(Stop::NoEntry),
         };
         Ok((Entry { side, act }, rest))
@@ -128,6 +154,15 @@ impl Entry {
             }
             Act::Look => list.push(at | 0x08),
             Act::Run(cycles) => put_word(list, at | 0x09, cycles),
+            Act::Collect { gate, list: number } => list.extend([at | 0x0a, gate, number as u8]),
+            Act::ReadAt {
+                list: number,
+                place,
+            } => {
+                list.extend([at | 0x0b, number as u8]);
+                list.extend(place.to_be_bytes());
+            }
+            Act::Remove { list: number } => list.extend([at | 0x0c, number as u8]),
         }
     }
 }
@@ -166,6 +201,20 @@ fn closing(list: &[u8]) -> Result<(usize, u16, &[u8]), Stop> {
     }
 }
 
+fn reading(list: &[u8]) -> Result<(usize, u64, &[u8]), Stop> {
+    let ([number, place @ ..], rest) = operands::<9>(list)?;
+    Ok((event_list(number)?, u64::from_be_bytes(place), rest))
+}
+
+fn event_list(number: u8) -> Result<usize, Stop> {
+    let number = usize::from(number);
+    if number < CAPACITIES.len() {
+        Ok(number)
+    } else {
+        Err(Stop::BadOperand)
+    }
+}
+
 #[derive(Clone, Copy, Debug, PartialEq, Eq)]
 pub enum Answer {
     Accepted,
@@ -174,6 +223,9 @@ pub enum Answer {
     Slip(usize),
     NoneKept,
     Look,
+    EventRead { event: Event, next: u64 },
+    EventRemoved(Event),
+    NoEvent,
 }
 
 impl From<Result<(), Refusal>> for Answer {
@@ -200,7 +252,12 @@ impl<const STEP: i32> Seat<STEP> {
     }
 
     #[inline(always)]
-    fn play<const OTHER: i32>(&mut self, other: &mut Seat<OTHER>, act: Act) -> Answer {
+    fn play<const OTHER: i32>(
+        &mut self,
+        other: &mut Seat<OTHER>,
+        lists: &mut EventLists,
+        act: Act,
+    ) -> Answer {
         match act {
             Act::Command(code) => self.board.command(code).into(),
             Act::Write(word) => self.board.write(word).into(),
@@ -221,11 +278,20 @@ impl<const STEP: i32> Seat<STEP> {
             Act::CloseElsewhere { gate, word } => self.close_elsewhere(other, gate, word),
             Act::Look => Answer::Look,
             Act::Run(cycles) => {
-                for _ in 0..cycles {
-                    self.board.cycle([Input::default(); 2]);
-                }
+                self.run(cycles);
                 Answer::Accepted
             }
+            Act::Collect { gate, list } => self.board.collect(gate, &mut lists[list]).into(),
+            Act::ReadAt { list, place } => read_at(&lists[list], place),
+            Act::Remove { list } => remove(&mut lists[list]),
+        }
+    }
+
+    /// Not inlined, so that the loop has the registers for itself.
+    #[inline(never)]
+    fn run(&mut self, cycles: u16) {
+        for _ in 0..cycles {
+            self.board.cycle([Input::default(); 2]);
         }
     }
 
@@ -268,10 +334,27 @@ impl<const STEP: i32> Seat<STEP> {
     }
 }
 
-/// The two boards that a list is played against.
+type EventLists = [EventList; CAPACITIES.len()];
+
+fn read_at(list: &EventList, place: u64) -> Answer {
+    match list.read(place) {
+        Some((event, next)) => Answer::EventRead { event, next },
+        None => Answer::NoEvent,
+    }
+}
+
+fn remove(list: &mut EventList) -> Answer {
+    match list.remove() {
+        Some(event) => Answer::EventRemoved(event),
+        None => Answer::NoEvent,
+    }
+}
+
+/// The two boards that a list is played against, and the event lists beside them.
 pub struct Boards {
     a: Seat<1>,
     b: Seat<128>,
+    lists: EventLists,
 }
 
 impl Boards {
@@ -279,14 +362,15 @@ impl Boards {
         Boards {
             a: Seat::new(),
             b: Seat::new(),
+            lists: CAPACITIES.map(EventList::new),
         }
     }
 
     #[inline(always)]
     pub fn play(&mut self, entry: Entry) -> Answer {
         match entry.side {
-            Side::A => self.a.play(&mut self.b, entry.act),
-            Side::B => self.b.play(&mut self.a, entry.act),
+            Side::A => self.a.play(&mut self.b, &mut self.lists, entry.act),
+            Side::B => self.b.play(&mut self.a, &mut self.lists, entry.act),
         }
     }
 
@@ -302,6 +386,10 @@ impl Boards {
             Side::A => self.a.board.gates(),
             Side::B => self.b.board.gates(),
         }
+    }
+
+    pub fn list(&self, number: usize) -> &EventList {
+        &self.lists[number]
     }
 
     pub fn current(&self, side: Side) -> usize {
@@ -344,6 +432,9 @@ impl Answers<'_> {
             Answer::Slip(gate) => self.put(&[0x11, gate as u8 + 1]),
             Answer::NoneKept => self.put(&[0x12]),
             Answer::Look => self.put(&look()),
+            Answer::EventRead { event, next } => self.put(&event_read(event, next)),
+            Answer::EventRemoved(event) => self.put(&event_removed(event)),
+            Answer::NoEvent => self.put(&[0x16]),
         }
     }
 
@@ -380,12 +471,21 @@ fn play_all(mut list: &[u8], answers: &mut Answers) -> Result<(), Stop> {
     Ok(())
 }
 
+fn event_read(event: Event, next: u64) -> [u8; EVENT_READ] {
+    let mut answer = Fields::new(0x14);
+    answer.event(event);
+    answer.put(next.to_be_bytes());
+    answer.bytes
+}
+
+fn event_removed(event: Event) -> [u8; 1 + EVENT] {
+    let mut answer = Fields::new(0x15);
+    answer.event(event);
+    answer.bytes
+}
+
 fn look<const STEP: i32>(board: &Board<STEP>) -> [u8; LOOK] {
-    let mut look = Fields {
-        bytes: [0; LOOK],
-        used: 0,
-    };
-    look.put([0x13]);
+    let mut look = Fields::new(0x13);
     for phase in board.shown().as_flattened() {
         look.put(phase.to_be_bytes());
     }
@@ -395,15 +495,30 @@ fn look<const STEP: i32>(board: &Board<STEP>) -> [u8; LOOK] {
     look.bytes
 }
 
-struct Fields {
-    bytes: [u8; LOOK],
+/// An answer in the making.
+struct Fields<const LEN: usize> {
+    bytes: [u8; LEN],
     used: usize,
 }
 
-impl Fields {
+impl<const LEN: usize> Fields<LEN> {
+    fn new(first: u8) -> Self {
+        let mut fields = Fields {
+            bytes: [0; LEN],
+            used: 0,
+        };
+        fields.put([first]);
+        fields
+    }
+
     fn put<const N: usize>(&mut self, field: [u8; N]) {
         self.bytes[self.used..self.used + N].copy_from_slice(&field);
         self.used += N;
+    }
+
+    fn event(&mut self, event: Event) {
+        self.put([event.gate, event.place]);
+        self.put(event.clock.to_be_bytes());
     }
 
     fn record(&mut self, gate: &Gate) {
@@ -417,7 +532,7 @@ impl Fields {
         self.put(gate.actual.to_be_bytes());
         self.put([gate.breakpoint as u8]);
         self.put(gate.point.to_be_bytes());
-        self.put([gate.auto_update.into(), gate.events]);
+        self.put([gate.auto_update.into(), gate.events, gate.found]);
         self.put(gate.mask.to_be_bytes());
         self.put([gate.positive_armed.into(), gate.negative_armed.into()]);
         self.put([gate.motor as u8, gate.slip_out.into()]);

@@ -1,7 +1,7 @@
 //! Acts, answers and looks in words.
 
 use crate::board::Input;
-use crate::replay::{Act, Entry, LOOK, PAIRS, RECORD, Side};
+use crate::replay::{Act, EVENT, EVENT_READ, Entry, LOOK, PAIRS, RECORD, Side};
 
 pub const COMMANDS: [(u8, &str); 37] = [
     (0x01, "SET_1"),
@@ -43,7 +43,7 @@ pub const COMMANDS: [(u8, &str); 37] = [
     (0x3e, "GET_TIME"),
 ];
 
-pub const ACTS: [&str; 10] = [
+pub const ACTS: [&str; 13] = [
     "command",
     "write",
     "read",
@@ -54,16 +54,20 @@ pub const ACTS: [&str; 10] = [
     "close elsewhere",
     "look",
     "run",
+    "collect",
+    "read at a place",
+    "remove",
 ];
 
-pub const REFUSALS: [&str; 7] = [
-    "1 Unknown",
-    "2 PacketOpen",
-    "3 NotTaking",
-    "4 NotGiving",
-    "5 OutOfRange",
-    "6 NoCall",
-    "7 NoSlip",
+pub const REFUSALS: [(u8, &str); 8] = [
+    (1, "1 Unknown"),
+    (2, "2 PacketOpen"),
+    (3, "3 NotTaking"),
+    (4, "4 NotGiving"),
+    (5, "5 OutOfRange"),
+    (6, "6 NoCall"),
+    (7, "7 NoSlip"),
+    (10, "10 NoRoom"),
 ];
 
 /// The events with their places.
@@ -87,6 +91,14 @@ pub const BREAKPOINTS: [&str; 8] = [
     "external",
 ];
 
+/// The event lists, with the room of each.
+pub const LISTS: [&str; 4] = [
+    "list 0, of 0",
+    "list 1, of 1",
+    "list 2, of 2",
+    "list 3, of 7",
+];
+
 pub const STOPS: [&str; 5] = [
     "0 played to the end",
     "1 no such entry",
@@ -108,6 +120,9 @@ pub fn kind(act: Act) -> usize {
         Act::CloseElsewhere { .. } => 7,
         Act::Look => 8,
         Act::Run(_) => 9,
+        Act::Collect { .. } => 10,
+        Act::ReadAt { .. } => 11,
+        Act::Remove { .. } => 12,
     }
 }
 
@@ -129,6 +144,9 @@ fn act(act: Act) -> String {
             format!("{name}, gate {} with {word:04x}", gate + 1)
         }
         Act::Run(cycles) => format!("{name} of {cycles} cycles"),
+        Act::Collect { gate, list } => format!("{name}, gate {gate} into list {list}"),
+        Act::ReadAt { list, place } => format!("{name}, list {list} at {place}"),
+        Act::Remove { list } => format!("{name}, list {list}"),
         Act::Read | Act::Reset | Act::Take | Act::Look => name.to_string(),
     }
 }
@@ -137,6 +155,13 @@ fn command(code: u8) -> &'static str {
     COMMANDS
         .iter()
         .find(|(known, _)| *known == code)
+        .map_or("(unknown)", |(_, name)| name)
+}
+
+fn refusal(number: u8) -> &'static str {
+    REFUSALS
+        .iter()
+        .find(|(known, _)| *known == number)
         .map_or("(unknown)", |(_, name)| name)
 }
 
@@ -160,6 +185,8 @@ pub fn answer_len(first: u8) -> usize {
         0x10 => 3,
         0x11 => 2,
         0x13 => LOOK,
+        0x14 => EVENT_READ,
+        0x15 => 1 + EVENT,
         _ => 1,
     }
 }
@@ -169,17 +196,20 @@ pub fn answer(bytes: &[u8]) -> Vec<(String, String)> {
     let field = |value: String| vec![("answer".to_string(), value)];
     match *bytes {
         [0x00] => field("accepted".into()),
-        [n @ 1..=7] => field(format!("refused, {}", REFUSALS[usize::from(n) - 1])),
+        [number @ (1..=7 | 10)] => field(format!("refused, {}", refusal(number))),
         [0x10, high, low] => field(format!("word {:04x}", u16::from_be_bytes([high, low]))),
         [0x11, gate] => field(format!("slip of gate {gate}")),
         [0x12] => field("no slip is kept there".into()),
         [0x13, ref look @ ..] if look.len() == LOOK - 1 => look_fields(look),
+        [0x14, ref read @ ..] if read.len() == EVENT_READ - 1 => event_fields("read", read),
+        [0x15, ref event @ ..] if event.len() == EVENT => event_fields("taken out", event),
+        [0x16] => field("there is no event".into()),
         _ => field(format!("bytes {bytes:02x?}")),
     }
 }
 
 /// The fields of a record: name, bytes, whether signed.
-const FIELDS: [(&str, usize, bool); 25] = [
+const FIELDS: [(&str, usize, bool); 26] = [
     ("buffered destination", 4, true),
     ("buffered velocity", 4, false),
     ("buffered acceleration", 4, true),
@@ -199,6 +229,7 @@ const FIELDS: [(&str, usize, bool); 25] = [
     ("point", 4, true),
     ("auto update", 1, false),
     ("events", 1, false),
+    ("events found", 1, false),
     ("mask", 2, false),
     ("positive detector armed", 1, false),
     ("negative detector armed", 1, false),
@@ -210,6 +241,23 @@ const FIELDS: [(&str, usize, bool); 25] = [
 /// Where the breakpoint's mode and the events stand in a record.
 pub const BREAKPOINT_AT: usize = 48;
 pub const EVENTS_AT: usize = 54;
+
+/// The fields of an event, and the next place where that stands behind it.
+fn event_fields(what: &str, bytes: &[u8]) -> Vec<(String, String)> {
+    let (event, next) = bytes.split_at(EVENT);
+    let field = |name: &str, bytes| (name.to_string(), number(bytes, false).to_string());
+    let mut fields = vec![
+        ("answer".to_string(), format!("event {what}")),
+        field("gate", &event[..1]),
+        field("place of its bit", &event[1..2]),
+        field("its clock", &event[2..]),
+    ];
+    if !next.is_empty() {
+        let next = number(next, false) as u64;
+        fields.push(("next place".to_string(), next.to_string()));
+    }
+    fields
+}
 
 fn look_fields(look: &[u8]) -> Vec<(String, String)> {
     let (pairs, records) = look.split_at(PAIRS);
@@ -261,5 +309,20 @@ mod tests {
     fn numbers_keep_their_sign() {
         assert_eq!(number(&[0xff, 0xfe], true), -2);
         assert_eq!(number(&[0xff, 0xfe], false), 65_534);
+    }
+
+    #[test]
+    fn events_are_told_field_by_field() {
+        let bytes = [
+            0x14, 2, 7, 0, 0, 1, 4, 0xff, 0xff, 0xff, 0xff, 0xff, 0xff, 0xff, 0xff,
+        ];
+        let told = |bytes: &[u8]| -> Vec<_> { answer(bytes).into_iter().map(|(_, v)| v).collect() };
+        let read = ["event read", "2", "7", "260", "18446744073709551615"];
+        assert_eq!(told(&bytes), read);
+        assert_eq!(
+            told(&[0x15, 1, 0, 0, 0, 0, 9]),
+            ["event taken out", "1", "0", "9"]
+        );
+        assert_eq!(told(&[0x0a]), ["refused, 10 NoRoom"]);
     }
 }

@@ -501,3 +501,151 @@ fn slips() {
     assert_eq!(board.close(1, 0), Err(Refusal::NoSlip));
     assert_eq!(*board.gates(), [Gate::NEW; 2]);
 }
+
+/// A record as docs/EVENTS.md writes it.
+fn listed(gate: u8, place: u8, clock: u32) -> Event {
+    Event { gate, place, clock }
+}
+
+/// The place of the oldest event, and all of them.
+fn stored(list: &EventList) -> (u64, Vec<Event>) {
+    let mut place = list.oldest_place();
+    let events = std::iter::from_fn(|| {
+        let (event, next) = list.read(place)?;
+        place = next;
+        Some(event)
+    });
+    (list.oldest_place(), events.collect())
+}
+
+fn break_at(board: &mut Dac, clock: i32) {
+    send_long(board, 0x16, clock).unwrap();
+    board.command(0x17).unwrap();
+    while board.gates()[0].events & event::BREAKPOINT == 0 {
+        cycle(board);
+    }
+}
+
+/// Motion complete and a breakpoint at gate 1, a command error at gate 2, at the clock 160.
+fn the_example() -> Dac {
+    let mut board = board();
+    board.command(0x02).unwrap();
+    board.read().unwrap();
+    send(&mut board, 0x62, &[0x8000]).unwrap_err();
+    board.command(0x01).unwrap();
+    board.read().unwrap();
+    load(&mut board, 1, 65_536, 65_536);
+    board.command(0x1a).unwrap();
+    break_at(&mut board, 160);
+    assert_eq!(
+        board.gates().map(|gate| (gate.events, gate.clock)),
+        [0x05, 0x80].map(|events| (events, 160))
+    );
+    board
+}
+
+#[test]
+fn the_example_of_event_lists() {
+    let mut board = the_example();
+    let mut list = EventList::new(3);
+    let mut records = vec![listed(1, 0, 160), listed(1, 2, 160)];
+    assert_eq!(board.collect(1, &mut list), Ok(()));
+    assert_eq!(stored(&list), (0, records.clone()));
+    assert_eq!(board.collect(1, &mut list), Ok(()));
+    assert_eq!(stored(&list), (0, records.clone()));
+    assert_eq!(list.read(0), Some((records[0], 1)));
+    assert_eq!(list.read(1), Some((records[1], 2)));
+    assert_eq!(list.read(2), None);
+    records.push(listed(2, 7, 160));
+    assert_eq!(board.collect(2, &mut list), Ok(()));
+    assert_eq!(stored(&list), (0, records.clone()));
+    send(&mut board, 0x34, &[0]).unwrap();
+    assert_eq!(board.collect(1, &mut list), Ok(()));
+    assert_eq!(stored(&list), (0, records.clone()));
+
+    break_at(&mut board, 320);
+    let before = *board.gates();
+    assert_eq!(board.collect(1, &mut list), Err(Refusal::NoRoom));
+    assert_eq!((stored(&list), list.end()), ((0, records.clone()), 3));
+    assert_eq!(*board.gates(), before);
+    assert_eq!(list.remove(), Some(records.remove(0)));
+    assert_eq!(stored(&list), (1, records.clone()));
+    records.push(listed(1, 2, 320));
+    assert_eq!(board.collect(1, &mut list), Ok(()));
+    assert_eq!((stored(&list), list.end()), ((1, records.clone()), 4));
+    assert_eq!(list.read(0), Some((records[0], 2)));
+    assert_eq!(list.read(2), Some((records[1], 3)));
+
+    send(&mut board, 0x34, &[0]).unwrap();
+    assert_eq!(board.collect(1, &mut list), Ok(()));
+    break_at(&mut board, 330);
+    assert_eq!(board.collect(1, &mut list), Ok(()));
+    assert_eq!(stored(&list), (1, records));
+    assert_eq!(board.gates()[0].found, event::BREAKPOINT);
+}
+
+#[test]
+fn a_collect_lists_all_or_nothing() {
+    let mut board = board();
+    board.gates[0].events = event::MOTION_COMPLETE | event::LIMITS | event::COMMAND_ERROR;
+    let mut list = EventList::new(3);
+    assert_eq!(board.collect(1, &mut list), Err(Refusal::NoRoom));
+    assert_eq!((stored(&list), list.end()), ((0, vec![]), 0));
+    assert_eq!(board.gates()[0].found, 0);
+
+    // The lowest repeats the newest, the others fit.
+    let mut list = EventList::new(4);
+    assert!(list.push(listed(1, 0, 77)));
+    assert_eq!(board.collect(1, &mut list), Ok(()));
+    let places = stored(&list).1.iter().map(|event| event.place).collect();
+    assert_eq!((places, list.end()), (vec![0, 5, 6, 7], 4));
+
+    // The other gate's event is not a repeat, an older one does not count either.
+    board.gates[1].events = event::COMMAND_ERROR;
+    assert_eq!(board.collect(2, &mut list), Err(Refusal::NoRoom));
+    list.remove();
+    assert_eq!(board.collect(2, &mut list), Ok(()));
+    assert_eq!(list.newest(), Some(listed(2, 7, 0)));
+}
+
+#[test]
+fn a_repeat_needs_no_room() {
+    let mut board = board();
+    board.gates[1].events = event::WRAP_AROUND;
+    let mut list = EventList::new(1);
+    assert_eq!(board.collect(2, &mut list), Ok(()));
+    board.gates[1].found = 0;
+    assert_eq!(board.collect(2, &mut list), Ok(()));
+    assert_eq!(board.gates()[1].found, event::WRAP_AROUND);
+    // After all are removed it is listed again.
+    list.remove();
+    board.gates[1].found = 0;
+    assert_eq!(board.collect(2, &mut list), Ok(()));
+    assert_eq!((list.oldest_place(), list.end()), (1, 2));
+}
+
+#[test]
+fn a_collect_changes_nothing_but_what_was_found() {
+    let mut board = the_example();
+    board.command(0x10).unwrap();
+    board.write(0xffff).unwrap();
+    let (gates, shown) = (*board.gates(), *board.shown());
+    let mut list = EventList::new(7);
+    for gate in [0, 3, 255] {
+        assert_eq!(board.collect(gate, &mut list), Err(Refusal::OutOfRange));
+    }
+    assert!(list.is_empty());
+    assert_eq!(*board.gates(), gates);
+    assert_eq!(board.collect(2, &mut list), Ok(()));
+    let found = Gate {
+        found: event::COMMAND_ERROR,
+        ..gates[1]
+    };
+    assert_eq!(*board.gates(), [gates[0], found]);
+    assert_eq!((board.current(), *board.shown()), (0, shown));
+    assert_eq!(board.write(0xfffe), Ok(()));
+    assert_eq!(board.gates()[0].buffered.destination, -2);
+    board.reset();
+    assert_eq!(*board.gates(), [Gate::NEW; 2]);
+    assert_eq!(list.newest(), Some(listed(2, 7, 160)));
+}

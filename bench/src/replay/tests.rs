@@ -20,8 +20,8 @@ fn a_new_board_looks_so() {
     record[24] = 1; // active acceleration
     record[43] = 1; // rested
     record[53] = 1; // auto update
-    record[57] = 1; // positive detector
-    record[58] = 1; // negative detector
+    record[58] = 1; // positive detector
+    record[59] = 1; // negative detector
     let mut expected = vec![0x13];
     expected.resize(1 + PAIRS, 0);
     expected.extend([record.clone(), record].concat());
@@ -93,10 +93,71 @@ fn slips_are_closed_elsewhere() {
     assert_eq!(play(&list), (0, expected.to_vec()));
 }
 
+/// Both boards collect into list 2, which has room for two, and both read and remove there.
+#[test]
+fn events_are_listed() {
+    let at = |board: u8, list: u8, place: u8| [board | 0x0b, list, 0, 0, 0, 0, 0, 0, 0, place];
+    let list = [
+        &call(0)[..],
+        &call(0x80),
+        &[0x89, 1, 2, 0x0a, 1, 2, 0x8a, 1, 1],
+        &[0x8a, 2, 2, 0x82, 0x8a, 0, 2, 0x0a, 3, 0],
+        &at(0x80, 2, 0),
+        &at(0, 2, 1),
+        &at(0, 1, 9),
+        &at(0, 0, 0),
+        &[0x8c, 2, 0x0c, 2, 0x0c, 3],
+    ]
+    .concat();
+    let expected = [
+        &[0, 0, 0, 5, 0, 0, 0, 5, 0, 0, 0][..],
+        &[0, 4, 5, 5],
+        &[0x14, 1, 7, 0, 0, 0, 0, 0, 0, 0, 0, 0, 0, 0, 1],
+        &[0x16],
+        &[0x14, 1, 7, 0, 0, 1, 2, 0, 0, 0, 0, 0, 0, 0, 1],
+        &[0x16],
+        &[0x15, 1, 7, 0, 0, 0, 0, 0x16, 0x16],
+    ]
+    .concat();
+    assert_eq!(play(&list), (0, expected));
+}
+
+#[test]
+fn a_collect_finds_no_room() {
+    let list = [&call(0)[..], &[0x0a, 1, 0, 0x0a, 1, 3, 0x0a, 1, 0, 0x08]].concat();
+    let (code, answers) = play(&list);
+    assert_eq!((code, &answers[4..8]), (0, &[0x0a, 0, 0, 0x13][..]));
+    let record = &answers[8 + PAIRS..][..RECORD];
+    // Events, and those that were found.
+    assert_eq!(record[54..56], [0x80, 0x80]);
+}
+
+#[test]
+fn returns_of_event_lists() {
+    let place = [0; 8];
+    let read_at = |list: u8| [&[0x02, 0x0b, list][..], &place].concat();
+    assert_eq!(play(&read_at(3)), (0, vec![4, 0x16]));
+    assert_eq!(play(&read_at(4)), (3, vec![4]));
+    assert_eq!(play(&read_at(4)[..10]), (2, vec![4]));
+    assert_eq!(play(&[0x02, 0x0a, 0, 3]), (0, vec![4, 5]));
+    assert_eq!(play(&[0x02, 0x0a, 0, 4]), (3, vec![4]));
+    assert_eq!(play(&[0x02, 0x0a, 255]), (2, vec![4]));
+    assert_eq!(play(&[0x02, 0x8c, 3]), (0, vec![4, 0x16]));
+    assert_eq!(play(&[0x02, 0x8c, 255]), (3, vec![4]));
+    assert_eq!(play(&[0x02, 0x8c]), (2, vec![4]));
+    let listed = [&call(0)[..], &[0x0a, 1, 3, 0x0c, 3]].concat();
+    let room = HEAD + 5 + 1 + EVENT;
+    assert_eq!(
+        play_in(&listed, room),
+        (0, vec![0, 0, 0, 5, 0, 0x15, 1, 7, 0, 0, 0, 0])
+    );
+    assert_eq!(play_in(&listed, room - 1), (4, vec![0, 0, 0, 5, 0]));
+}
+
 #[test]
 fn returns() {
     assert_eq!(play(&[]), (0, vec![]));
-    assert_eq!(play(&[0x02, 0x0a]), (1, vec![4]));
+    assert_eq!(play(&[0x02, 0x0d]), (1, vec![4]));
     assert_eq!(play(&[0x02, 0xff]), (1, vec![4]));
     assert_eq!(play(&[0x02, 0x03, 0, 0, 0, 0, 0]), (2, vec![4]));
     assert_eq!(play(&[0x02, 0x03, 0, 0, 8, 0, 0, 0]), (3, vec![4]));
@@ -131,6 +192,12 @@ fn entries_are_coded_and_decoded() {
         Act::CloseElsewhere { gate: 1, word: 7 },
         Act::Look,
         Act::Run(65_535),
+        Act::Collect { gate: 255, list: 3 },
+        Act::ReadAt {
+            list: 2,
+            place: 0xfedc_ba98_7654_3210,
+        },
+        Act::Remove { list: 1 },
     ];
     for side in [Side::A, Side::B] {
         for act in acts {

@@ -9,7 +9,9 @@ use Rattle.stage.specs.declared.Stage.{Ghosts}
 use Rattle.stage.specs.Pairs.{is_gate}
 use Rattle.gate.specs.declared.gate.Gate.{Gate}
 use Rattle.gate.specs.declared.inputs.Inputs.{Inputs}
+use Rattle.ring.specs.Listing.{Listing}
 use Rattle.board.specs.declared.board.Board.{Board}
+use Rattle.board.specs.declared.collect.EventRecord.{EventRecord}
 use Rattle.board.specs.declared.refusal.Refusal.{Refusal}
 use Rattle.board.specs.Own.{answer_done, answer_slip}
 use Rattle.board.specs.Acts.{act_cycle, act_take, gate_of, state_of}
@@ -22,7 +24,7 @@ use Rattle.script.specs.Plays.{PlaysPacket}
 use Rattle.host.specs.declared.lot.Lot.{Lot}
 use Rattle.host.specs.declared.lot.Outcome.{Outcome}
 use Rattle.host.specs.Lots.{outcome_after}
-use Rattle.host.specs.Works.{WorkAnswers, AnswersPackets, Notes, Bench, CyclesOnce, RunsFor, IfSomething, WorksInTurn, WorksLot, following_inputs, outcomes_after, lot_beside, with_answers, with_note}
+use Rattle.host.specs.Works.{WorkAnswers, AnswersPackets, Notes, Bench, CyclesOnce, RunsFor, IfSomething, SparesList, WorksInTurn, WorksLot, following_inputs, outcomes_after, lot_beside, with_answers, with_note}
 
 -- a note is a write of the last outcome
 pub last_noted_at : (g : Gate) (os : List Outcome) (k : ℕ) (d : Outcome) → length os ≡ suc k
@@ -80,8 +82,8 @@ module _ {S : Type 0} (m : Ghosts S) where
   pub cycled_by : (s t : Bench m) (i j : Inputs) (g h p q : Gate) → Performs m (act_cycle i j) answer_done s.board t.board
       → i ≡ following_inputs g → g ≡ gate_of (state_of s.board.table) 0 → j ≡ following_inputs h → h ≡ gate_of (state_of s.board.table) 1
       → t.notes_one ≡ with_note p s.notes_one → p ≡ gate_of (state_of t.board.table) 0 → t.notes_two ≡ with_note q s.notes_two
-      → q ≡ gate_of (state_of t.board.table) 1 → CyclesOnce m s t
-  cycled_by s t i j g h p q performs i-is g-is j-is h-is notes_one p-is notes_two q-is =
+      → q ≡ gate_of (state_of t.board.table) 1 → t.list ≡ s.list → t.reading ≡ s.reading → CyclesOnce m s t
+  cycled_by s t i j g h p q performs i-is g-is j-is h-is notes_one p-is notes_two q-is list reading =
       let one : i ≡ following_inputs (gate_of (state_of s.board.table) 0) = i-is ∙ ap following_inputs g-is in
       let two : j ≡ following_inputs (gate_of (state_of s.board.table) 1) = j-is ∙ ap following_inputs h-is in
       record {
@@ -90,6 +92,8 @@ module _ {S : Type 0} (m : Ghosts S) where
             (subst (λ (x : Inputs). Performs m (act_cycle x j) answer_done s.board t.board) one performs);
         notes_one = notes_one ∙ ap (λ x. with_note x s.notes_one) p-is;
         notes_two = notes_two ∙ ap (λ x. with_note x s.notes_two) q-is;
+        list = list;
+        reading = reading;
       }
 
   -- no cycle, and one more
@@ -109,10 +113,13 @@ module _ {S : Type 0} (m : Ghosts S) where
       rw add-one (u, get_or lots k d, p, slice_get-get_or lots k d l, subst (λ (other : Option Lot). WorksLot m (get_or lots k d) other u t) e w)
 
   -- what is done for gate 2, by whether it has lots
-  pub if_lots : (P : Notes → Board S m → Notes → Board S m → Type 0) (o : Option (Bor (List Lot))) (x y z : Notes) (b c d : Board S m) → is_some o ≡ true → z ≡ y → d ≡ c → P x b y c → IfSomething m (λ (lots : List Lot). P) (option_copied o) x b z d
-  if_lots P (Some lots) x y z b c d e y-is c-is p = subst (λ (v : Notes). P x b v d) (sym y-is) (subst (λ (v : Board S m). P x b y v) (sym c-is) p)
-  if_lots P None x y z b c d e y-is c-is p = cc
+  pub if_lots : (P : Notes → Board S m → Notes → Board S m → Type 0) (o : Option (Bor (List Lot))) (x y z : Notes) (b c d : Board S m) (l : Listing EventRecord)
+      → is_some o ≡ true → z ≡ y → d ≡ c → P x b y c → IfSomething m (λ (lots : List Lot). SparesList m P) (option_copied o) x b l z d l
+  if_lots P (Some lots) x y z b c d l e y-is c-is p =
+      (subst (λ (v : Notes). P x b v d) (sym y-is) (subst (λ (v : Board S m). P x b y v) (sym c-is) p), refl)
+  if_lots P None x y z b c d l e y-is c-is p = cc
 
-  pub if_no_lots : (P : Notes → Board S m → Notes → Board S m → Type 0) (o : Option (Bor (List Lot))) (x y : Notes) (b d : Board S m) → is_some o ≡ false → y ≡ x → d ≡ b → IfSomething m (λ (lots : List Lot). P) (option_copied o) x b y d
-  if_no_lots P (Some lots) x y b d e p q = cc
-  if_no_lots P None x y b d e p q = (p, q)
+  pub if_no_lots : (P : Notes → Board S m → Notes → Board S m → Type 0) (o : Option (Bor (List Lot))) (x y : Notes) (b d : Board S m) (l : Listing EventRecord)
+      → is_some o ≡ false → y ≡ x → d ≡ b → IfSomething m (λ (lots : List Lot). SparesList m P) (option_copied o) x b l y d l
+  if_no_lots P (Some lots) x y b d l e p q = cc
+  if_no_lots P None x y b d l e p q = (p, q, refl)

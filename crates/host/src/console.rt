@@ -7,7 +7,9 @@ use crate::report::show_lots;
 use crate::session::play_script;
 use crate::tasks::{show_move, show_windings};
 use anyhow::{anyhow, ensure};
+use board::collect::EventRecord;
 use desk::desk::Desk;
+use ring::ring::Ring;
 use script::boards::Boards;
 use stage::codes::Wires;
 use stage::dac::Dac;
@@ -16,17 +18,27 @@ use std::process::ExitCode;
 use std::{env, fs, io};
 
 // No error can hold it: an `anyhow::Error` keeps 120 bytes of its message.
-const USAGE: &str = "usage: console [--stages A,B] [FILE]
+const USAGE: &str = "usage: console [--stages A,B] [--events N] [FILE]
        console --move DESTINATION VELOCITY ACCELERATION [POWER]
        console --windings [KIND [POWER]]
        console --help
 A and B are dac or pwm, and KIND is two-phase or three-phase. FILE is a script.
-With - or nothing in its place it is standard input; where that is blank, lots are worked.";
+With - or nothing in its place it is standard input; where that is blank, lots are worked.
+N, 0 to 65535, is how many records each board's event list has room for: 64 where it is left out.";
+
+// The makes of the boards' stages, and how many records each board's event list has room for.
+#[derive(Clone, Copy)]
+struct Setup {
+    makes: Makes,
+    room: u16,
+}
 
 const MAKES: Makes = Makes {
     a: Make::Dac,
     b: Make::Pwm,
 };
+
+const ROOM: u16 = 64;
 
 // What is done on two new boards.
 #[derive(Clone, Copy)]
@@ -38,10 +50,11 @@ enum Task<'a> {
 // Plays a script; a line that cannot be read is an error once all are played.
 fn play_on<S: Wires + Drop, R: Wires + Drop>(
     rt: &HostRuntime,
-    mut boards: Boards<S, R>,
+    mut boards: Boards<'_, S, R>,
     script: &str,
 ) -> anyhow::Result<()>
-    ensures { OnOk result (PlaysWhole S.Stage R.Stage S.codes R.codes (lines script.now) boards) }
+    ensures { OnOk result (PlaysWhole S.Stage R.Stage S.codes R.codes (lines script.now)
+        boards.entry) }
 {
     let played = play_script(rt, &mut boards, script);
     boards.finish();
@@ -49,50 +62,67 @@ fn play_on<S: Wires + Drop, R: Wires + Drop>(
     Ok(())
 }
 
+// Works lots on two new boards with new lists.
+fn work_on<S: Wires + Drop, R: Wires + Drop>(
+    rt: &HostRuntime,
+    makes: Makes,
+    a: S,
+    b: R,
+    list_a: &mut Ring<'_, EventRecord>,
+    list_b: &mut Ring<'_, EventRecord>,
+) -> anyhow::Result<()> {
+    let (mut a, mut b) = (Desk::new(a), Desk::new(b));
+    let shown = show_lots(rt, makes, &mut a, &mut b, list_a, list_b);
+    a.finish();
+    b.finish();
+    shown
+}
+
 // Does a task, whatever the makes of the boards' stages.
 fn perform<S: Wires + Drop, R: Wires + Drop>(
     rt: &HostRuntime,
-    makes: Makes,
+    setup: Setup,
     task: Task,
     a: S,
     b: R,
 ) -> anyhow::Result<()> {
+    let room = usize::from(setup.room);
+    let mut memory_a = vec![in rt.alloc(); EventRecord::BLANK; room]?;
+    let mut memory_b = vec![in rt.alloc(); EventRecord::BLANK; room]?;
+    let (memory_a, memory_b) = (memory_a.as_mut_slice(), memory_b.as_mut_slice());
     match task {
-        Task::Script(script) => play_on(rt, Boards::new(a, b), script),
+        Task::Script(script) => play_on(rt, Boards::new(a, b, memory_a, memory_b), script),
         Task::Lots => {
-            let (mut a, mut b) = (Desk::new(a), Desk::new(b));
-            let shown = show_lots(rt, makes, &mut a, &mut b);
-            a.finish();
-            b.finish();
-            shown
+            let (mut list_a, mut list_b) = (Ring::new(memory_a), Ring::new(memory_b));
+            work_on(rt, setup.makes, a, b, &mut list_a, &mut list_b)
         }
     }
 }
 
 // Each pair of makes is a type of its own, so there is a call for each.
-fn on_stages(rt: &HostRuntime, makes: Makes, task: Task) -> anyhow::Result<()> {
-    match (makes.a, makes.b) {
-        (Make::Dac, Make::Dac) => perform(rt, makes, task, Dac::new(), Dac::new()),
-        (Make::Dac, Make::Pwm) => perform(rt, makes, task, Dac::new(), Pwm::new()),
-        (Make::Pwm, Make::Dac) => perform(rt, makes, task, Pwm::new(), Dac::new()),
-        (Make::Pwm, Make::Pwm) => perform(rt, makes, task, Pwm::new(), Pwm::new()),
+fn on_stages(rt: &HostRuntime, setup: Setup, task: Task) -> anyhow::Result<()> {
+    match (setup.makes.a, setup.makes.b) {
+        (Make::Dac, Make::Dac) => perform(rt, setup, task, Dac::new(), Dac::new()),
+        (Make::Dac, Make::Pwm) => perform(rt, setup, task, Dac::new(), Pwm::new()),
+        (Make::Pwm, Make::Dac) => perform(rt, setup, task, Pwm::new(), Dac::new()),
+        (Make::Pwm, Make::Pwm) => perform(rt, setup, task, Pwm::new(), Pwm::new()),
     }
 }
 
 // The script on standard input, or the lots where it is empty.
-fn from_input(rt: &HostRuntime, makes: Makes) -> anyhow::Result<()> {
+fn from_input(rt: &HostRuntime, setup: Setup) -> anyhow::Result<()> {
     let text = io::read_to_string(rt.alloc(), rt.stdin())?;
     let script = text.as_str();
     if script.trim().is_empty() {
-        on_stages(rt, makes, Task::Lots)
+        on_stages(rt, setup, Task::Lots)
     } else {
-        on_stages(rt, makes, Task::Script(script))
+        on_stages(rt, setup, Task::Script(script))
     }
 }
 
-fn from_file(rt: &HostRuntime, makes: Makes, path: &str) -> anyhow::Result<()> {
+fn from_file(rt: &HostRuntime, setup: Setup, path: &str) -> anyhow::Result<()> {
     let text = fs::read_to_string(rt, path)?;
-    on_stages(rt, makes, Task::Script(text.as_str()))
+    on_stages(rt, setup, Task::Script(text.as_str()))
 }
 
 fn show_usage(rt: &HostRuntime) -> anyhow::Result<()> {
@@ -105,39 +135,51 @@ fn refuse_words(rt: &HostRuntime) -> anyhow::Result<()> {
     Err(anyhow!("these arguments are not taken"))
 }
 
-fn with_makes(rt: &HostRuntime, makes: Makes, words: &[String]) -> anyhow::Result<()> {
+// Two boards, by the arguments behind their options.
+fn with_setup(rt: &HostRuntime, setup: Setup, words: &[String]) -> anyhow::Result<()> {
     match words {
-        [] => from_input(rt, makes),
+        [] => from_input(rt, setup),
         [file] => match file.as_str() {
-            "-" => from_input(rt, makes),
+            "-" => from_input(rt, setup),
             option if option.starts_with("--") => refuse_words(rt),
-            path => from_file(rt, makes, path),
+            path => from_file(rt, setup, path),
         },
         _ => refuse_words(rt),
     }
 }
 
-// Two boards, by the arguments behind their stages.
-fn with_stages(rt: &HostRuntime, words: &[String]) -> anyhow::Result<()> {
-    let [names, rest @ ..] = words else {
-        return refuse_words(rt);
-    };
-    let Ok(makes) = names.as_str().parse() else {
-        return refuse_words(rt);
-    };
-    with_makes(rt, makes, rest)
+// Reads options with their values, each once, from the front of the arguments; `None` if a value is not taken.
+fn read_setup(words: &[String]) -> Option<(Setup, &[String])> {
+    let (mut makes, mut room, mut rest) = (None, None, words);
+    while let [option, value, more @ ..] = rest {
+        match option.as_str() {
+            "--stages" if makes.is_none() => makes = Some(value.as_str().parse().ok()?),
+            "--events" if room.is_none() => room = Some(value.as_str().parse().ok()?),
+            _ => break,
+        }
+        rest = more;
+    }
+    let makes = makes.unwrap_or(MAKES);
+    let room = room.unwrap_or(ROOM);
+    Some((Setup { makes, room }, rest))
+}
+
+fn with_options(rt: &HostRuntime, words: &[String]) -> anyhow::Result<()> {
+    match read_setup(words) {
+        Some((setup, rest)) => with_setup(rt, setup, rest),
+        None => refuse_words(rt),
+    }
 }
 
 fn with_words(rt: &HostRuntime, words: &[String]) -> anyhow::Result<()> {
     let [option, rest @ ..] = words else {
-        return with_makes(rt, MAKES, words);
+        return with_options(rt, words);
     };
     match option.as_str() {
-        "--stages" => with_stages(rt, rest),
         "--move" => show_move(rt, rest),
         "--windings" => show_windings(rt, rest),
         "--help" if rest.is_empty() => show_usage(rt),
-        _ => with_makes(rt, MAKES, words),
+        _ => with_options(rt, words),
     }
 }
 

@@ -3,11 +3,15 @@ ghost use Rattle.std.specs.Option.{option_copied};
 ghost use Rattle.stage.specs.Pairs.{is_gate};
 ghost use Rattle.gate.specs.Sound.{IsSound};
 ghost use Rattle.board.specs.Acts.{gate_of};
-ghost use Rattle.host.specs.Works.{notes_of, no_notes, with_note, lot_beside, following_inputs, bench_of, new_bench, NotesPackets, MakesReady, LoadsLot, ServesSlip, RunsFor, IfSomething, WorksLot, WorksAll};
+ghost use Rattle.ring.specs.Listing.{Listing};
+ghost use Rattle.board.specs.declared.collect.EventRecord.{EventRecord};
+ghost use Rattle.host.specs.Works.{notes_of, no_notes, name_of, with_note, lot_beside, following_inputs, reading_of, no_reading, bench_of, new_bench, NotesPackets, MakesReady, LoadsLot, Collects, OrdersLot, ServesSlip, RunsFor, IfSomething, WorksLot, WorksAll};
 ghost use Rattle.desk.specs.Desks.{board_of};
 ghost use Rattle.board.specs.Runs.{board_state};
 
 use crate::lot::{CYCLES, Lot, Outcome};
+use crate::panel::Panel;
+use board::collect::EventRecord;
 use board::command::{Command, GateName};
 use board::refusal::Refusal;
 use desk::desk::Desk;
@@ -15,29 +19,49 @@ use gate::gate::{BreakMode, Gate};
 use gate::inputs::Inputs;
 use gate::orders::{LongOrder, Order, WordOrder};
 use motion::course::microsteps;
+use ring::ring::Ring;
 use script::line::Packet;
 use script::play::play_packet;
 use script::reply::Reply;
 use stage::Stage;
 use std::alloc::{AllocError, Global};
 
-/// What one gate did with its lots, and what its packets and slips were answered.
+/// What one gate, 1 or 2, did with its lots, and what its packets, collects and slips were answered.
 #[derive(Drop)]
 pub struct Work {
-    named: GateName,
+    gate: u8,
     pub outcomes: Vec<Outcome>,
     pub answers: Vec<Result<Reply, Refusal>>,
+}
+
+/// What is noted of the work of both gates of a board, and of what its panel read.
+#[derive(Drop)]
+pub struct Works {
+    pub one: Work,
+    pub two: Work,
+    pub panel: Panel,
+}
+
+// What the status of gate 1, or of gate 2, is asked by.
+fn name_of(gate: u8) -> GateName
+    ensures { result ≡ name_of gate }
+{
+    if gate == 1 {
+        GateName::First
+    } else {
+        GateName::Second
+    }
 }
 
 // The word of a close that clears motion complete alone.
 const SERVED: u16 = 0xfffe;
 
 impl Work {
-    fn new(heap: Global, named: GateName) -> Work
-        ensures { notes_of result ≡ no_notes named }
+    fn new(heap: Global, gate: u8) -> Work
+        ensures { notes_of result ≡ no_notes gate }
     {
         Work {
-            named,
+            gate,
             outcomes: Vec::new(heap),
             answers: Vec::new(heap),
         }
@@ -71,15 +95,15 @@ impl Work {
             (notes_of self.new) (board_of desk.new)) }
     {
         let packets = [
-            Packet::Plain(Command::Status(self.named)),
+            Packet::Plain(Command::Status(name_of(self.gate))),
             Packet::Word(Command::Word(WordOrder::Power), power),
             Packet::Word(Command::Word(WordOrder::Mask), mask),
         ];
         self.send(desk, &packets)
     }
 
-    // Loads a lot, to be latched by a breakpoint at its time.
-    fn order<S: Stage + Drop>(&mut self, desk: &mut Desk<S>, lot: Lot) -> Result<(), AllocError>
+    // Clears the gate's event bits, and loads a lot, to be latched by a breakpoint at its time.
+    fn load<S: Stage + Drop>(&mut self, desk: &mut Desk<S>, lot: Lot) -> Result<(), AllocError>
         ensures { OnOk result
             (LoadsLot S.Stage lot (notes_of self.old) (board_of desk.old) (notes_of self.new)
             (board_of desk.new)) }
@@ -87,7 +111,8 @@ impl Work {
         self.outcomes.push(Outcome::new(lot))?;
         let destination = lot.destination.cast_unsigned();
         let packets = [
-            Packet::Plain(Command::Status(self.named)),
+            Packet::Plain(Command::Status(name_of(self.gate))),
+            Packet::Word(Command::Word(WordOrder::ClearEvents), 0),
             Packet::Long(Command::Long(LongOrder::Destination), destination),
             Packet::Long(Command::Long(LongOrder::Velocity), lot.velocity),
             Packet::Long(Command::Long(LongOrder::Acceleration), lot.acceleration),
@@ -97,18 +122,66 @@ impl Work {
         self.send(desk, &packets)
     }
 
+    // Collects the gate's events into a list.
+    fn collect<S: Stage + Drop>(
+        &mut self,
+        desk: &mut Desk<S>,
+        list: &mut Ring<'_, EventRecord>,
+    ) -> Result<(), AllocError>
+        ensures { OnOk result
+            (Collects S.Stage (notes_of self.old) (board_of desk.old) list.old (notes_of self.new)
+            (board_of desk.new) list.new) }
+    {
+        let collected = desk.collect(self.gate, list);
+        self.answers.push(collected.map(|_done| Reply::Done))?;
+        Ok(())
+    }
+
+    // Loads a lot, and collects, so that what the lot sets later is new.
+    fn order<S: Stage + Drop>(
+        &mut self,
+        desk: &mut Desk<S>,
+        list: &mut Ring<'_, EventRecord>,
+        lot: Lot,
+    ) -> Result<(), AllocError>
+        ensures { OnOk result
+            (OrdersLot S.Stage lot (notes_of self.old) (board_of desk.old) list.old
+            (notes_of self.new) (board_of desk.new) list.new) }
+    {
+        self.load(desk, lot)?;
+        self.collect(desk, list)
+    }
+
     // The same, if there is a lot.
     fn order_if<S: Stage + Drop>(
         &mut self,
         desk: &mut Desk<S>,
+        list: &mut Ring<'_, EventRecord>,
         lot: Option<Lot>,
     ) -> Result<(), AllocError>
         ensures { OnOk result
-            (IfSomething S.Stage (LoadsLot S.Stage) lot (notes_of self.old) (board_of desk.old)
-            (notes_of self.new) (board_of desk.new)) }
+            (IfSomething S.Stage (OrdersLot S.Stage) lot (notes_of self.old) (board_of desk.old)
+            list.old (notes_of self.new) (board_of desk.new) list.new) }
     {
         match lot {
-            Some(lot) => self.order(desk, lot),
+            Some(lot) => self.order(desk, list, lot),
+            None => Ok(()),
+        }
+    }
+
+    // Collects, if there was a lot.
+    fn collect_if<S: Stage + Drop>(
+        &mut self,
+        desk: &mut Desk<S>,
+        list: &mut Ring<'_, EventRecord>,
+        lot: Option<Lot>,
+    ) -> Result<(), AllocError>
+        ensures { OnOk result
+            (IfSomething S.Stage (λ (lot : Lot). Collects S.Stage) lot (notes_of self.old)
+            (board_of desk.old) list.old (notes_of self.new) (board_of desk.new) list.new) }
+    {
+        match lot {
+            Some(_) => self.collect(desk, list),
             None => Ok(()),
         }
     }
@@ -161,36 +234,54 @@ fn follow(gate: Gate) -> Inputs
     }
 }
 
+impl Works {
+    fn new(heap: Global) -> Works
+        ensures one { notes_of result.one ≡ no_notes 1 }
+        ensures two { notes_of result.two ≡ no_notes 2 }
+        ensures panel { reading_of result.panel ≡ no_reading }
+    {
+        Works {
+            one: Work::new(heap, 1),
+            two: Work::new(heap, 2),
+            panel: Panel::new(heap),
+        }
+    }
+}
+
 // Runs the cycles of a lot, and notes what both gates do.
-fn run<S: Stage + Drop>(desk: &mut Desk<S>, work_one: &mut Work, work_two: &mut Work)
-    ensures { RunsFor S.Stage 160 (bench_of S.Stage (board_of desk.old) work_one.old work_two.old)
-        (bench_of S.Stage (board_of desk.new) work_one.new work_two.new) }
+fn run<S: Stage + Drop>(desk: &mut Desk<S>, works: &mut Works)
+    ensures { (l : Listing EventRecord) →
+        RunsFor S.Stage 160 (bench_of S.Stage (board_of desk.old) l works.old)
+        (bench_of S.Stage (board_of desk.new) l works.new) }
 {
     for _cycle in 0..CYCLES {
         let (one, two) = (follow(record(desk, 1)), follow(record(desk, 2)));
         desk.cycle(one, two);
-        work_one.note(record(desk, 1));
-        work_two.note(record(desk, 2));
+        works.one.note(record(desk, 1));
+        works.two.note(record(desk, 2));
     }
 }
 
 // Works a lot of gate 1, and one of gate 2 beside it, if there is one.
 fn work_lot<S: Stage + Drop>(
     desk: &mut Desk<S>,
-    work_one: &mut Work,
-    work_two: &mut Work,
+    list: &mut Ring<'_, EventRecord>,
+    works: &mut Works,
     lot: Lot,
     beside: Option<Lot>,
 ) -> Result<(), AllocError>
     ensures { OnOk result
         (WorksLot S.Stage lot beside
-        (bench_of S.Stage (board_of desk.old) work_one.old work_two.old)
-        (bench_of S.Stage (board_of desk.new) work_one.new work_two.new)) }
+        (bench_of S.Stage (board_of desk.old) list.old works.old)
+        (bench_of S.Stage (board_of desk.new) list.new works.new)) }
 {
-    work_one.order(desk, lot)?;
-    work_two.order_if(desk, beside)?;
-    run(desk, work_one, work_two);
-    work_one.serve(desk)
+    works.one.order(desk, list, lot)?;
+    works.two.order_if(desk, list, beside)?;
+    run(desk, works);
+    works.one.collect(desk, list)?;
+    works.two.collect_if(desk, list, beside)?;
+    works.panel.read_on(list)?;
+    works.one.serve(desk)
 }
 
 // The lot at a place, if there are lots.
@@ -207,22 +298,22 @@ fn lot_at<const N: usize>(lots: Option<&[Lot; N]>, index: usize) -> Option<Lot>
 pub fn work_lots<S: Stage + Drop, const N: usize>(
     heap: Global,
     desk: &mut Desk<S>,
+    list: &mut Ring<'_, EventRecord>,
     lots_one: &[Lot; N],
     lots_two: Option<&[Lot; N]>,
-) -> Result<(Work, Work), AllocError>
+) -> Result<Works, AllocError>
     ensures { IfOk result
         (λ works. WorksAll S.Stage lots_one.now (option_copied lots_two.entry)
-        (new_bench S.Stage (board_of desk.old))
-        (bench_of S.Stage (board_of desk.new) works.0 works.1)) }
+        (new_bench S.Stage (board_of desk.old) list.old)
+        (bench_of S.Stage (board_of desk.new) list.new works)) }
 {
-    let mut one = Work::new(heap, GateName::First);
-    let mut two = Work::new(heap, GateName::Second);
-    one.prepare(desk, 20_000, 1)?;
+    let mut works = Works::new(heap);
+    works.one.prepare(desk, 20_000, 1)?;
     if lots_two.is_some() {
-        two.prepare(desk, 12_000, 0)?;
+        works.two.prepare(desk, 12_000, 0)?;
     }
     for (index, lot) in lots_one.iter().enumerate() {
-        work_lot(desk, &mut one, &mut two, *lot, lot_at(lots_two, index))?;
+        work_lot(desk, list, &mut works, *lot, lot_at(lots_two, index))?;
     }
-    Ok((one, two))
+    Ok(works)
 }

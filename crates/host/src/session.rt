@@ -18,7 +18,7 @@ fn text_before_comment(line: &str) -> &str
 // Plays one line, and prints its answer; false if it cannot be read.
 fn play_line<S: Wires + Drop, R: Wires + Drop>(
     rt: &HostRuntime,
-    boards: &mut Boards<S, R>,
+    boards: &mut Boards<'_, S, R>,
     number: usize,
     text: &str,
 ) -> anyhow::Result<bool>
@@ -46,7 +46,7 @@ fn play_line<S: Wires + Drop, R: Wires + Drop>(
 /// Plays a script from its first line to its last, and answers how many lines could not be read.
 pub fn play_script<S: Wires + Drop, R: Wires + Drop>(
     rt: &HostRuntime,
-    boards: &mut Boards<S, R>,
+    boards: &mut Boards<'_, S, R>,
     script: &str,
 ) -> anyhow::Result<usize>
     ensures { IfOk result

@@ -9,11 +9,12 @@ use Rattle.desk.specs.declared.side.Side.{Side}
 use Rattle.desk.specs.declared.side.Side.TheVariants as side
 use Rattle.replay.specs.declared.entry.Closing.{Closing}
 use Rattle.replay.specs.declared.entry.Entry.{Entry}
-use Rattle.replay.specs.declared.entry.Entry.TheVariants.{Command, Write, Read, Cycle, Reset, Take, Close, CloseElsewhere, Look, Run}
+use Rattle.replay.specs.declared.entry.Entry.TheVariants.{Command, Write, Read, Cycle, Reset, Take, Close, CloseElsewhere, Look, Run, Collect, ReadAt, Remove}
 use Rattle.replay.specs.declared.entry.Step.{Step}
 use Rattle.replay.specs.declared.fault.Fault.{Fault}
 use Rattle.replay.specs.declared.fault.Fault.TheVariants.{Unknown, CutShort, Operand, NoRoom}
-use Rattle.replay.specs.Numbers.{two_bytes}
+use Rattle.replay.specs.Lists.{list_number}
+use Rattle.replay.specs.Numbers.{two_bytes, eight_bytes}
 
 -- the byte that says an entry, at board a
 abbrev pub code_of : Entry → ℕ
@@ -27,6 +28,9 @@ code_of (Close c) = 6
 code_of (CloseElsewhere c) = 7
 code_of Look = 8
 code_of (Run n) = 9
+code_of (Collect gate name) = 10
+code_of (ReadAt name place) = 11
+code_of (Remove name) = 12
 
 -- what board b adds to it
 abbrev pub side_bit : Side → ℕ
@@ -50,6 +54,9 @@ operand_bytes (Close c) = c.gate ∷ two_bytes c.word
 operand_bytes (CloseElsewhere c) = c.gate ∷ two_bytes c.word
 operand_bytes Look = []
 operand_bytes (Run n) = two_bytes n
+operand_bytes (Collect gate name) = gate ∷ list_number name ∷ []
+operand_bytes (ReadAt name place) = list_number name ∷ eight_bytes place
+operand_bytes (Remove name) = list_number name ∷ []
 
 -- the bytes of an entry
 abbrev pub entry_bytes : Side → Entry → List ℕ
@@ -67,21 +74,31 @@ IsValid (Close c) = is_gate c.gate ≡ true
 IsValid (CloseElsewhere c) = is_gate c.gate ≡ true
 IsValid Look = Unit {0}
 IsValid (Run n) = Unit {0}
+IsValid (Collect gate name) = Unit {0}
+IsValid (ReadAt name place) = Unit {0}
+IsValid (Remove name) = Unit {0}
 
 -- whether an entry begins with a byte, at board a
 abbrev pub is_known_code : ℕ → Bool
-is_known_code code = nat_lt code 10
+is_known_code code = nat_lt code 13
 
 -- how many bytes it takes
 abbrev pub entry_size : ℕ → ℕ
 entry_size code =
-    cond (code == 0) 2 (cond (code == 3) 7 (cond (code == 1 || code == 9) 3 (cond (code == 6 || code == 7) 4 1)))
+    cond (code == 0 || code == 12) 2
+    (cond (code == 3) 7
+    (cond (code == 1 || code == 9 || code == 10) 3
+    (cond (code == 6 || code == 7) 4
+    (cond (code == 11) 10 1))))
 
--- whether the operands that a list begins with are in their ranges: no switch bit from 3 on, a gate that there is
+-- whether the operands that a list begins with are in their ranges: no switch bit from 3 on, a gate that a slip can have, an event list
+-- that there is
 abbrev pub has_operands_in_range : ℕ → List ℕ → Bool
 has_operands_in_range code xs =
     cond (code == 3) (nat_lt (slice_index xs 2) 8 && nat_lt (slice_index xs 5) 8)
-    (cond (code == 6 || code == 7) (is_gate (slice_index xs 0)) true)
+    (cond (code == 6 || code == 7) (is_gate (slice_index xs 0))
+    (cond (code == 10) (nat_lt (slice_index xs 1) 4)
+    (cond (code == 11 || code == 12) (nat_lt (slice_index xs 0) 4) true)))
 
 -- an entry's operands, by its code, and the rest of the list that they stand in
 pub record Carries (code : ℕ) (xs : List ℕ) (e : Entry) (rest : List ℕ) : Type 0 where

@@ -1,5 +1,6 @@
 pub mod Faults
 pub mod Numbers
+pub mod Lists
 pub mod Entries
 pub mod Written
 pub mod Looks

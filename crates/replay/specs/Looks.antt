@@ -56,10 +56,10 @@ motion_bytes m = eight_bytes (of_z w64 m.target) ++ (signed_four_bytes m.velocit
 abbrev pub breakpoint_bytes : Breakpoint → List ℕ
 breakpoint_bytes b = break_byte b.mode ∷ (four_bytes b.point ++ (flag_byte b.auto ∷ []))
 
--- event bits, mask, detectors, kind of motor, slip mark, clock
+-- event bits, those that were set at the last collect, mask, detectors, kind of motor, slip mark, clock
 abbrev pub flags_bytes : Gate → List ℕ
 flags_bytes g =
-    events_word g.events ∷ (two_bytes g.mask
+    events_word g.events ∷ events_word g.found ∷ (two_bytes g.mask
     ++ (flag_byte g.detectors.positive ∷ flag_byte g.detectors.negative ∷ motor_byte g.kind ∷ flag_byte g.slip ∷ four_bytes g.clock.cycles))
 
 abbrev pub record_bytes : Gate → List ℕ

@@ -1,4 +1,4 @@
--- What a list leaves, once it is played against two boards.
+-- What a list leaves, once it is played against two boards with the event lists beside them.
 use Rattle.std.specs.Prelude.{◌≡◌, ℕ, ◌+◌, ◌-◌, ◌<◌, List, [], ◌∷◌, ◌++◌, length, take, Ok, Err, Result}
 use Rattle.stage.specs.declared.Stage.{Ghosts}
 use Rattle.board.specs.declared.board.Board.{Board}
@@ -11,55 +11,60 @@ use Rattle.replay.specs.declared.entry.Entry.{Entry}
 use Rattle.replay.specs.declared.entry.Step.{Step}
 use Rattle.replay.specs.declared.fault.Fault.{Fault}
 use Rattle.replay.specs.declared.fault.Fault.TheVariants.{Unknown, CutShort, Operand, NoRoom}
+use Rattle.replay.specs.declared.lists.Lists.{Lists}
 use Rattle.replay.specs.declared.out.Out.{Out}
 use Rattle.replay.specs.Answers.{answer_bytes}
 use Rattle.replay.specs.Entries.{Begins, Fails}
+use Rattle.replay.specs.Lists.{new_lists}
 use Rattle.replay.specs.Numbers.{eight_bytes}
 use Rattle.replay.specs.Plays.{PlaysEntry}
 use Rattle.replay.specs.Written.{AppendsOrNone, Appends}
 
--- board a goes from a to c, board b from b to d
+-- board a goes from a to c, board b from b to d, the event lists from u to v
 module _ {S R : Type 0} (m : Ghosts S) (n : Ghosts R) where
   -- an entry is played at its board, and answered by the bytes
-  abbrev pub PlaysStep : Side → Entry → Board S m → Board S m → Board R n → Board R n → List ℕ → Type 0
-  PlaysStep side.A e a c b d bytes = (x : Result Reply Refusal) × PlaysEntry m n e x a c b d × (bytes ≡ answer_bytes m x c)
-  PlaysStep side.B e a c b d bytes = (x : Result Reply Refusal) × PlaysEntry n m e x b d a c × (bytes ≡ answer_bytes n x d)
+  abbrev pub PlaysStep : Side → Entry → Board S m → Board S m → Board R n → Board R n → Lists → Lists → List ℕ → Type 0
+  PlaysStep side.A e a c b d u v bytes = (x : Result Reply Refusal) × PlaysEntry m n e x a c b d u v × (bytes ≡ answer_bytes m x c)
+  PlaysStep side.B e a c b d u v bytes = (x : Result Reply Refusal) × PlaysEntry n m e x b d a c u v × (bytes ≡ answer_bytes n x d)
 
   -- the same, with the writer
-  abbrev pub PlaysStepInto : Side → Entry → Board S m → Board S m → Board R n → Board R n → Out → Out → Result (Unit {0}) Fault → Type 0
-  PlaysStepInto s e a c b d o p r = (bytes : List ℕ) × PlaysStep s e a c b d bytes × AppendsOrNone o p bytes r
+  abbrev pub PlaysStepInto : Side → Entry → Board S m → Board S m → Board R n → Board R n → Lists → Lists → Out → Out
+      → Result (Unit {0}) Fault → Type 0
+  PlaysStepInto s e a c b d u v o p r = (bytes : List ℕ) × PlaysStep s e a c b d u v bytes × AppendsOrNone o p bytes r
 
-  module _ (xs : List ℕ) (a : Board S m) (b : Board R n) where
+  module _ (xs : List ℕ) (a : Board S m) (b : Board R n) (u : Lists) where
     -- steps that the list begins with are played one after another, and answered by the bytes; of the steps the newest stands first, and
     -- the rest of the list stands behind it
-    abbrev pub PlaysSteps : List Step → List ℕ → Board S m → Board R n → List ℕ → Type 0
-    PlaysSteps [] rest c d bytes = (rest ≡ xs) × (c ≡ a) × (d ≡ b) × (bytes ≡ [])
-    PlaysSteps (s ∷ ss) rest c d bytes =
-        (before : List ℕ) × (g : Board S m) × (h : Board R n) × (old : List ℕ) × (more : List ℕ) × PlaysSteps ss before g h old
+    abbrev pub PlaysSteps : List Step → List ℕ → Board S m → Board R n → Lists → List ℕ → Type 0
+    PlaysSteps [] rest c d v bytes = (rest ≡ xs) × (c ≡ a) × (d ≡ b) × (v ≡ u) × (bytes ≡ [])
+    PlaysSteps (s ∷ ss) rest c d v bytes =
+        (before : List ℕ) × (g : Board S m) × (h : Board R n) × (w : Lists) × (old : List ℕ) × (more : List ℕ)
+        × PlaysSteps ss before g h w old
         × Begins before s rest
-        × PlaysStep s.side s.entry g c h d more × (bytes ≡ old ++ more)
+        × PlaysStep s.side s.entry g c h d w v more × (bytes ≡ old ++ more)
 
     -- a fault stands behind the steps that were played
-    abbrev pub StopsAtFault : Fault → List Step → Board S m → Board R n → List ℕ → Type 0
-    StopsAtFault f ss c d bytes = (rest : List ℕ) × PlaysSteps ss rest c d bytes × Fails rest f
+    abbrev pub StopsAtFault : Fault → List Step → Board S m → Board R n → Lists → List ℕ → Type 0
+    StopsAtFault f ss c d v bytes = (rest : List ℕ) × PlaysSteps ss rest c d v bytes × Fails rest f
 
     -- how a list ends that is answered within so much room: it is played to its end; or up to a fault; or up to a step that is played
     -- behind those answered, and whose own answer has no room
-    abbrev pub EndsList : Result (Unit {0}) Fault → List Step → Board S m → Board R n → List ℕ → ℕ → Type 0
-    EndsList (Ok u) ss c d bytes room = PlaysSteps ss [] c d bytes
-    EndsList (Err Unknown) ss c d bytes room = StopsAtFault Unknown ss c d bytes
-    EndsList (Err CutShort) ss c d bytes room = StopsAtFault CutShort ss c d bytes
-    EndsList (Err Operand) ss c d bytes room = StopsAtFault Operand ss c d bytes
-    EndsList (Err NoRoom) ss c d bytes room =
-        (s : Step) × (before : List ℕ) × (rest : List ℕ) × (g : Board S m) × (h : Board R n) × (more : List ℕ)
-        × PlaysSteps ss before g h bytes
-        × Begins before s rest × PlaysStep s.side s.entry g c h d more × (room < length (bytes ++ more))
+    abbrev pub EndsList : Result (Unit {0}) Fault → List Step → Board S m → Board R n → Lists → List ℕ → ℕ → Type 0
+    EndsList (Ok z) ss c d v bytes room = PlaysSteps ss [] c d v bytes
+    EndsList (Err Unknown) ss c d v bytes room = StopsAtFault Unknown ss c d v bytes
+    EndsList (Err CutShort) ss c d v bytes room = StopsAtFault CutShort ss c d v bytes
+    EndsList (Err Operand) ss c d v bytes room = StopsAtFault Operand ss c d v bytes
+    EndsList (Err NoRoom) ss c d v bytes room =
+        (s : Step) × (before : List ℕ) × (rest : List ℕ) × (g : Board S m) × (h : Board R n) × (w : Lists) × (more : List ℕ)
+        × PlaysSteps ss before g h w bytes
+        × Begins before s rest × PlaysStep s.side s.entry g c h d w v more × (room < length (bytes ++ more))
 
     -- the same, with the writer
-    abbrev pub ReplaysInto : Board S m → Board R n → Out → Out → Result (Unit {0}) Fault → Type 0
-    ReplaysInto c d o p r = (ss : List Step) × (bytes : List ℕ) × EndsList r ss c d bytes (length o.bytes.now - o.len) × Appends o p bytes
+    abbrev pub ReplaysInto : Board S m → Board R n → Lists → Out → Out → Result (Unit {0}) Fault → Type 0
+    ReplaysInto c d v o p r =
+        (ss : List Step) × (bytes : List ℕ) × EndsList r ss c d v bytes (length o.bytes.now - o.len) × Appends o p bytes
 
-  -- a list is played against two new boards, and answered within so much room by the bytes
+  -- a list is played against two new boards and new event lists, and answered within so much room by the bytes
   pub record IsAnsweredBy (xs : List ℕ) (room : ℕ) (bytes : List ℕ) (r : Result (Unit {0}) Fault) : Type 0 where
     pub board_a : Board S m
     pub board_b : Board R n
@@ -67,8 +72,9 @@ module _ {S R : Type 0} (m : Ghosts S) (n : Ghosts R) where
     pub new_b : IsReachedBy n [] board_b
     pub last_a : Board S m
     pub last_b : Board R n
+    pub last_lists : Lists
     pub steps : List Step
-    pub ended : EndsList xs board_a board_b r steps last_a last_b bytes room
+    pub ended : EndsList xs board_a board_b new_lists r steps last_a last_b last_lists bytes room
 
   -- the answers, so many bytes, stand at the beginning of the room
   abbrev pub FillsRoom : List ℕ → List ℕ → List ℕ → ℕ → Result (Unit {0}) Fault → Type 0

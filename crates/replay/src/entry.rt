@@ -4,6 +4,7 @@ ghost use Rattle.replay.specs.Entries.{input_bytes, ReadsStep, CarriesClosing, C
 ghost use Rattle.replay.specs.Numbers.{two_bytes};
 
 use crate::fault::Fault;
+use crate::lists::ListName;
 use desk::side::Side;
 use gate::inputs::Inputs;
 
@@ -27,6 +28,11 @@ pub enum Entry {
     CloseElsewhere(Closing),
     Look,
     Run(u16),
+    // the number of any gate, and the list that its events are for
+    Collect(u8, ListName),
+    // a list and a place of it
+    ReadAt(ListName, u64),
+    Remove(ListName),
 }
 
 /// An entry and its board.
@@ -88,6 +94,39 @@ fn slip_to_close(list: &[u8]) -> Result<(Closing, &[u8]), Fault>
     }
 }
 
+fn collect(list: &[u8]) -> Result<(Entry, &[u8]), Fault>
+    ensures { MatchResult result (λ p. Carries 10 list.now p.0 p.1.now) (FailsAt 10 list.now) }
+{
+    let [gate, number, rest @ ..] = list else {
+        return Err(Fault::CutShort);
+    };
+    let name = ListName::read(*number)?;
+    Ok((Entry::Collect(*gate, name), rest))
+}
+
+fn read_at(list: &[u8]) -> Result<(Entry, &[u8]), Fault>
+    ensures { MatchResult result (λ p. Carries 11 list.now p.0 p.1.now) (FailsAt 11 list.now) }
+{
+    let [number, operands @ ..] = list else {
+        return Err(Fault::CutShort);
+    };
+    let Some((place, rest)) = operands.split_first_chunk::<8>() else {
+        return Err(Fault::CutShort);
+    };
+    let name = ListName::read(*number)?;
+    Ok((Entry::ReadAt(name, u64::from_be_bytes(*place)), rest))
+}
+
+fn remove(list: &[u8]) -> Result<(Entry, &[u8]), Fault>
+    ensures { MatchResult result (λ p. Carries 12 list.now p.0 p.1.now) (FailsAt 12 list.now) }
+{
+    let [number, rest @ ..] = list else {
+        return Err(Fault::CutShort);
+    };
+    let name = ListName::read(*number)?;
+    Ok((Entry::Remove(name), rest))
+}
+
 impl Entry {
     // The entry of a code, whose operands the list begins with, and the rest of the list.
     fn read(code: u8, list: &[u8]) -> Result<(Entry, &[u8]), Fault>
@@ -120,6 +159,9 @@ impl Entry {
                 let (cycles, rest) = word(list)?;
                 Ok((Entry::Run(cycles), rest))
             }
+            10 => collect(list),
+            11 => read_at(list),
+            12 => remove(list),
             _ => Err(Fault::Unknown),
         }
     }

@@ -8,7 +8,9 @@ ghost use Rattle.replay.specs.Returns.{Returns};
 
 use crate::boards::Boards;
 use crate::fault::Fault;
+use crate::lists::Lists;
 use crate::out::Out;
+use board::collect::EventRecord;
 use stage::Stage;
 use stage::dac::Dac;
 use stage::pwm::Pwm;
@@ -17,6 +19,7 @@ use stage::wiring::{GateWiring, Wiring};
 pub mod boards;
 pub mod entry;
 pub mod fault;
+pub mod lists;
 pub mod look;
 pub mod out;
 pub mod play;
@@ -40,7 +43,7 @@ fn wired_pwm() -> Wiring<Pwm>
     Wiring::new(Pwm::new(), one, two)
 }
 
-// Plays a list against new boards over two stages, and answers how many bytes were written.
+// Plays a list against new boards over two stages and new event lists, and answers how many bytes were written.
 fn replay<S: Stage + Drop, R: Stage + Drop>(
     a: S,
     b: R,
@@ -50,11 +53,15 @@ fn replay<S: Stage + Drop, R: Stage + Drop>(
     ensures { FillsRoom S.Stage R.Stage list.now room.old room.new result.0 result.1 }
 {
     let mut boards = Boards::new(a, b);
+    let mut one = [EventRecord::BLANK; 1];
+    let mut two = [EventRecord::BLANK; 2];
+    let mut seven = [EventRecord::BLANK; 7];
+    let mut lists = Lists::new(&mut one, &mut two, &mut seven);
     let mut out = Out {
         bytes: room,
         len: 0,
     };
-    let played = boards.play(list, &mut out);
+    let played = boards.play(&mut lists, list, &mut out);
     (out.len, played)
 }
 
@@ -88,12 +95,14 @@ mod tests {
     fn faults(rt: HostRuntime) {
         assert_eq!(rt; returned(&[]), 0);
         assert_eq!(rt; returned(&[0x04]), 0);
-        assert_eq!(rt; returned(&[0x0a]), 1);
-        assert_eq!(rt; returned(&[0x8a]), 1);
+        assert_eq!(rt; returned(&[0x0d]), 1);
+        assert_eq!(rt; returned(&[0x8d]), 1);
         assert_eq!(rt; returned(&[0x04, 0x01, 0xff]), 2);
         assert_eq!(rt; returned(&[0x06, 3]), 2);
         assert_eq!(rt; returned(&[0x06, 3, 0, 0]), 3);
         assert_eq!(rt; returned(&[0x83, 0, 0, 0, 0, 0, 8]), 3);
+        assert_eq!(rt; returned(&[0x0b, 4, 0, 0, 0, 0, 0, 0, 0]), 2);
+        assert_eq!(rt; returned(&[0x8a, 1, 4]), 3);
         assert_eq!(rt; returned(&[0x04, 0x84]), 4);
         assert_eq!(rt; two_gate_replay(&[], &mut [0; 7]), 4);
     }
@@ -130,6 +139,26 @@ mod tests {
             out,
             [
                 0, 0, 0, 0, 0, 0, 0, 16, 0, 0, 0, 5, 0x11, 1, 0, 0, 0, 5, 0x11, 1, 0, 0x12, 0, 0x12,
+            ]
+        );
+    }
+
+    // A command error of gate 1, 258 cycles after the reset, in the list with room for one record: collected twice, read, and taken out at
+    // the other board, whose own command error finds no room in the list with room for none.
+    #[test]
+    fn events(rt: HostRuntime) {
+        let list = [
+            0x09, 1, 2, 0x00, 0x62, 0x01, 0x80, 0x00, 0x0a, 1, 1, 0x0a, 1, 1, 0x0b, 1, 0, 0, 0, 0,
+            0, 0, 0, 0, 0x0b, 1, 0, 0, 0, 0, 0, 0, 0, 1, 0x8c, 1, 0x0c, 1, 0x0a, 3, 1, 0x80, 0x62,
+            0x81, 0x80, 0x00, 0x8a, 1, 0,
+        ];
+        let mut out = [0; 41];
+        assert_eq!(rt; two_gate_replay(&list, &mut out), 0);
+        assert_eq!(rt;
+            out,
+            [
+                0, 0, 0, 0, 0, 0, 0, 33, 0, 0, 5, 0, 0, 0x14, 1, 7, 0, 0, 1, 2, 0, 0, 0, 0, 0, 0,
+                0, 1, 0x16, 0x15, 1, 7, 0, 0, 1, 2, 0x16, 5, 0, 5, 10,
             ]
         );
     }

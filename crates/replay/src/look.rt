@@ -12,7 +12,7 @@ use wave::phases::MotorKind;
 
 // How many bytes a look takes, with the byte that says so. A look is written whole or not at all: its room is asked for once, and each
 // part requires its own.
-const LOOK: usize = 147;
+const LOOK: usize = 149;
 
 // The bytes are this crate's format, which the crates of these cases need not know; so they are matched here, and below.
 fn mode_byte(mode: ProfileMode) -> u8
@@ -84,12 +84,12 @@ fn put_breakpoint(out: &mut Out<'_>, breakpoint: Breakpoint)
     out.put(&[u8::from(breakpoint.auto)]);
 }
 
-// What follows the breakpoint in a record: event bits, mask, detectors, kind of motor, slip mark, clock.
+// What follows the breakpoint in a record: event bits, those of the last collect, mask, detectors, kind of motor, slip mark, clock.
 fn put_flags(out: &mut Out<'_>, gate: &Gate)
-    requires { HasRoom out.old 11 }
+    requires { HasRoom out.old 12 }
     ensures { Appends out.old out.new (flags_bytes gate.now) }
 {
-    out.put(&[gate.events.word() as u8]);
+    out.put(&[gate.events.word() as u8, gate.found.word() as u8]);
     out.put(&gate.mask.to_be_bytes());
     out.put(&[
         u8::from(gate.detectors.positive),
@@ -100,7 +100,7 @@ fn put_flags(out: &mut Out<'_>, gate: &Gate)
 }
 
 fn put_record(out: &mut Out<'_>, gate: &Gate)
-    requires { HasRoom out.old 65 }
+    requires { HasRoom out.old 66 }
     ensures { Appends out.old out.new (record_bytes gate.now) }
 {
     put_profile(out, gate.buffered);

@@ -1,8 +1,8 @@
 -- Words that no line is written by.
-use Rattle.std.proofs.Common.{rules, ◌≡◌, ◌∙◌, ℕ, ◌^◌, ◌<◌, ◌≤◌, List, [], ◌∷◌, pos, Some, None, Err, Option, ◌⊎◌, get_or, take, drop, length, ◌-◌, ap, arith, subst, sym, inl, inr, codes, unsigned_abs}
+use Rattle.std.proofs.Common.{rules, ◌≡◌, ◌∙◌, ℕ, ◌≤◌, List, [], ◌∷◌, Some, None, Err, Option, ◌⊎◌, get_or, take, drop, length, ◌-◌, ap, arith, subst, sym, inl, inr, codes, unsigned_abs}
 use Rattle.std.proofs.lemmas.List.{take_all}
 use Rattle.std.specs.Borrow.{Bor}
-use Rattle.std.specs.Int.{FitsUnsignedBits}
+use Rattle.std.specs.Int.{FitsUnsigned, w8}
 use Rattle.std.specs.Result.{OkIff}
 use Rattle.gate.specs.declared.inputs.Inputs.{Inputs}
 use Rattle.board.specs.declared.command.Command.{Command}
@@ -14,14 +14,13 @@ use Rattle.script.specs.declared.line.Packet.{Packet}
 use Rattle.script.specs.declared.line.Packet.TheVariants as packet
 use Rattle.script.specs.declared.line.Line.TheVariants as line
 use Rattle.script.specs.Mnemonics.{NamesCommand, mnemonic}
-use Rattle.script.specs.Numbers.{WritesNumber}
-use Rattle.script.specs.Lines.{Finds, WritesFitting, HasOneWord, IsCode, IsInputs, IsGate, WritesWord, IsCycleWords, IsCloseWords, WritesLine, WritesLong, IsPacket, ReadsPacket, value_expected, Expects, ReadsLine}
+use Rattle.script.specs.Lines.{Finds, WritesFitting, WritesUnsigned, HasOneWord, IsCode, IsInputs, IsGate, WritesWord, IsCycleWords, IsCloseWords, WritesLine, WritesLong, IsPacket, ReadsPacket, value_expected, Expects, ReadsLine}
 use Rattle.script.proofs.MnemonicLemmas.{mnemonic_names_one}
 use Rattle.script.proofs.NumberLemmas.{unsigned_fitted}
 
 -- a word that names no command is a code if it is a number of 8 bits
 pub code_found : (E : Type 0) (text : List ℕ) (r : Option ℕ) → NamesCommand text None
-    → WritesFitting {E = E} (λ z g. OkIff g (FitsUnsignedBits 8 z) (unsigned_abs z)) text r → Finds (IsCode text) r
+    → WritesFitting {E = E} (λ z g. OkIff g (FitsUnsigned w8 z) (unsigned_abs z)) text r → Finds (IsCode text) r
 code_found E text (Some n) unnamed p = inr (unsigned_fitted E 8 text (Some n) p)
 code_found E text None unnamed p = λ n w. elim w [ inl v ↦ unnamed v.0 v.1 | inr v ↦ unsigned_fitted E 8 text None p n v ]
 
@@ -50,10 +49,20 @@ pub no_write : (words : List (Bor (List ℕ))) → Finds (λ n. HasOneWord (λ t
 no_write words none (line.Write n) w = none n w.1
 no_write words none l w = search rules
 
-pub no_run : (words : List (Bor (List ℕ))) → ((n : ℕ) → HasOneWord (λ t. (n < 2 ^ 32) × WritesNumber t (Some (pos n))) words → ⊥)
+pub no_run : (words : List (Bor (List ℕ))) → ((n : ℕ) → HasOneWord (λ t. WritesUnsigned 32 t n) words → ⊥)
     → Finds (WritesLine (codes "run") words) None
 no_run words none (line.Run n) w = none n w.1
 no_run words none l w = search rules
+
+pub no_collect : (words : List (Bor (List ℕ))) → ((n : ℕ) → HasOneWord (λ t. WritesUnsigned 8 t n) words → ⊥)
+    → Finds (WritesLine (codes "collect") words) None
+no_collect words none (line.Collect n) w = none n w.1
+no_collect words none l w = search rules
+
+pub no_event : (words : List (Bor (List ℕ))) → ((p : ℕ) → HasOneWord (λ t. WritesUnsigned 64 t p) words → ⊥)
+    → Finds (WritesLine (codes "event") words) None
+no_event words none (line.Event p) w = none p w.1
+no_event words none l w = search rules
 
 pub no_cycle : (words : List (Bor (List ℕ))) → ((i j : Inputs) → IsCycleWords words i j → ⊥) → Finds (WritesLine (codes "cycle") words) None
 no_cycle words none (line.Cycle i j) w = none i j w.1

@@ -5,3 +5,4 @@ pub mod Plays
 pub mod Prints
 pub mod Sides
 pub mod Lines
+pub mod Logs

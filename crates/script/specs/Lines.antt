@@ -13,6 +13,8 @@ use Rattle.gate.specs.Inputs.{still_inputs}
 use Rattle.board.specs.Commands.{takes}
 use Rattle.script.specs.declared.fault.Expected.{Expected}
 use Rattle.script.specs.declared.fault.Expected.TheVariants as expected
+use Rattle.script.specs.declared.log.Reader.{Reader}
+use Rattle.script.specs.declared.log.Reader.TheVariants.{Panel, Book}
 use Rattle.script.specs.declared.line.Line.{Line}
 use Rattle.script.specs.declared.line.Line.TheVariants as line
 use Rattle.script.specs.declared.line.Packet.{Packet}
@@ -30,13 +32,21 @@ WritesWord text w = (z : ℤ) × WritesNumber text (Some z) × HasBits 32768 z (
 abbrev pub WritesLong : List ℕ → ℕ → Type 0
 WritesLong text n = (z : ℤ) × WritesNumber text (Some z) × HasBits 2147483648 z (Some n)
 
+-- a text is a number from 0 on, of so many bits
+abbrev pub WritesUnsigned : ℕ → List ℕ → ℕ → Type 0
+WritesUnsigned k text n = (n < 2 ^ k) × WritesNumber text (Some (pos n))
+
 -- a command's name, or its code
 abbrev pub IsCode : List ℕ → ℕ → Type 0
-IsCode text n = ((c : Command) × (text ≡ mnemonic c) × (code_table n ≡ Some c)) ⊎ ((n < 2 ^ 8) × WritesNumber text (Some (pos n)))
+IsCode text n = ((c : Command) × (text ≡ mnemonic c) × (code_table n ≡ Some c)) ⊎ WritesUnsigned 8 text n
 
 abbrev pub side_name : Side → List ℕ
 side_name A = codes "a"
 side_name B = codes "b"
+
+abbrev pub reader_name : Reader → List ℕ
+reader_name Panel = codes "panel"
+reader_name Book = codes "book"
 
 -- a letter stands in a text
 abbrev pub HoldsLetter : List ℕ → ℕ → Bool → Type 0
@@ -96,10 +106,14 @@ WritesLine verb words (line.Command n) = (verb ≡ codes "command") × HasOneWor
 WritesLine verb words (line.Write w) = (verb ≡ codes "write") × HasOneWord (λ t. WritesWord t w) words
 WritesLine verb words line.Read = (verb ≡ codes "read") × (words ≡ [])
 WritesLine verb words (line.Cycle i j) = (verb ≡ codes "cycle") × IsCycleWords words i j
-WritesLine verb words (line.Run n) = (verb ≡ codes "run") × HasOneWord (λ t. (n < 2 ^ 32) × WritesNumber t (Some (pos n))) words
+WritesLine verb words (line.Run n) = (verb ≡ codes "run") × HasOneWord (λ t. WritesUnsigned 32 t n) words
 WritesLine verb words line.Reset = (verb ≡ codes "reset") × (words ≡ [])
 WritesLine verb words line.Take = (verb ≡ codes "take") × (words ≡ [])
 WritesLine verb words (line.Close g w) = (verb ≡ codes "close") × IsCloseWords words g w
+WritesLine verb words (line.Collect n) = (verb ≡ codes "collect") × HasOneWord (λ t. WritesUnsigned 8 t n) words
+WritesLine verb words (line.Next reader) = (verb ≡ reader_name reader) × (words ≡ [])
+WritesLine verb words (line.Event p) = (verb ≡ codes "event") × HasOneWord (λ t. WritesUnsigned 64 t p) words
+WritesLine verb words line.Remove = (verb ≡ codes "remove") × (words ≡ [])
 WritesLine verb words line.Pairs = (verb ≡ codes "pairs") × (words ≡ [])
 WritesLine verb words line.Wires = (verb ≡ codes "wires") × (words ≡ [])
 WritesLine verb words (line.Packet p) = (c : Command) × (verb ≡ mnemonic c) × IsPacket c words p
@@ -119,7 +133,8 @@ ReadsPacket c words (Err e) = (e ≡ value_expected (takes c)) × Finds (IsPacke
 abbrev pub verbs : List (List ℕ)
 verbs =
     codes "board" ∷ (codes "command" ∷ (codes "write" ∷ (codes "read" ∷ (codes "cycle" ∷ (codes "run" ∷ (codes "reset" ∷ (codes "take"
-    ∷ (codes "close" ∷ (codes "pairs" ∷ (codes "wires" ∷ []))))))))))
+    ∷ (codes "close" ∷ (codes "collect" ∷ (codes "panel" ∷ (codes "book" ∷ (codes "event" ∷ (codes "remove" ∷ (codes "pairs"
+    ∷ (codes "wires" ∷ [])))))))))))))))
 
 -- what is expected of a line, by its verb
 abbrev pub Expects : List ℕ → Expected → Type 0
@@ -128,10 +143,13 @@ Expects verb expected.Board = verb ≡ codes "board"
 Expects verb expected.Command = verb ≡ codes "command"
 Expects verb expected.Word = verb ≡ codes "write"
 Expects verb expected.Alone =
-    (verb ≡ codes "read") ⊎ ((verb ≡ codes "reset") ⊎ ((verb ≡ codes "take") ⊎ ((verb ≡ codes "pairs") ⊎ (verb ≡ codes "wires"))))
+    (verb ≡ codes "read") ⊎ ((verb ≡ codes "reset") ⊎ ((verb ≡ codes "take") ⊎ ((verb ≡ codes "panel") ⊎ ((verb ≡ codes "book")
+    ⊎ ((verb ≡ codes "remove") ⊎ ((verb ≡ codes "pairs") ⊎ (verb ≡ codes "wires")))))))
 Expects verb expected.Cycle = verb ≡ codes "cycle"
 Expects verb expected.Run = verb ≡ codes "run"
 Expects verb expected.Close = verb ≡ codes "close"
+Expects verb expected.Collect = verb ≡ codes "collect"
+Expects verb expected.Event = verb ≡ codes "event"
 Expects verb expected.NoValue = (c : Command) × (verb ≡ mnemonic c) × (takes c ≡ 0)
 Expects verb expected.WordValue = (c : Command) × (verb ≡ mnemonic c) × (takes c ≡ 1)
 Expects verb expected.LongValue = (c : Command) × (verb ≡ mnemonic c) × (takes c ≡ 2)

@@ -1,13 +1,13 @@
 -- Numbers as a script writes them.
 use Rattle.std.specs.Prelude.{◌≡◌, ℕ, ◌*◌, ◌^◌, ◌<◌, cond, ◌⊎◌, List, ◌++◌, ℤ, pos, ◌+ℤ◌, neg_ℤ, ◌≤ℤ◌, ◌<ℤ◌, Some, None, codes, Option, FitsSigned, ◌≢◌, int_lt}
-use Rattle.std.specs.Int.{w64}
+use Rattle.std.specs.Int.{w128}
 use Rattle.std.specs.Str.Parse.{IsNumeral, digits_value, without_leading_sign, signed_digits_value}
 
 abbrev pub IsHex : List ℕ → Type 0
-IsHex ds = IsNumeral 16 ds × (digits_value 16 ds < 2 ^ 32)
+IsHex ds = IsNumeral 16 ds × (digits_value 16 ds < 2 ^ 64)
 
 abbrev pub IsDecimal : List ℕ → Type 0
-IsDecimal word = IsNumeral 10 (without_leading_sign word) × FitsSigned w64 (signed_digits_value 10 word)
+IsDecimal word = IsNumeral 10 (without_leading_sign word) × FitsSigned w128 (signed_digits_value 10 word)
 
 -- the number that hexadecimal digits write, or none, where they are none
 abbrev pub WritesHex : List ℕ → Option ℤ → Type 0

@@ -4,6 +4,7 @@
 pub mod boards;
 pub mod fault;
 pub mod line;
+pub mod log;
 pub mod mnemonic;
 pub mod number;
 pub mod packet;

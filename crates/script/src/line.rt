@@ -3,6 +3,7 @@ ghost use Rattle.std.specs.Option.{SomeIff};
 ghost use Rattle.script.specs.Lines.{Finds, WritesFitting, HoldsLetter, IsCode, IsGate, IsInputs, WritesLong, WritesWord, HasOneWord, ReadsPacket, ReadsLine, WritesLine, side_name};
 
 use crate::fault::Expected;
+use crate::log::Reader;
 use crate::mnemonic::command_named;
 use crate::number::{LONG_HALF, WORD_HALF, bits_of, number};
 use board::command::Command;
@@ -22,6 +23,10 @@ pub enum Line {
     Reset,
     Take,
     Close(u8, u16),
+    Collect(u8),
+    Next(Reader),
+    Event(u64),
+    Remove,
     Pairs,
     Wires,
     Packet(Packet),
@@ -68,7 +73,7 @@ fn long(text: &str) -> Option<u32>
 }
 
 // The number that a text writes, where it fits its type.
-fn fitting_number<N: TryFrom<i64>>(text: &str) -> Option<N>
+fn fitting_number<N: TryFrom<i128>>(text: &str) -> Option<N>
 where
     N::Error: Drop,
     ensures { WritesFitting N.try_from_gives text.now result }
@@ -186,6 +191,18 @@ fn close(words: &[&str]) -> Option<Line>
     }
 }
 
+fn collect(words: &[&str]) -> Option<Line>
+    ensures { Finds (WritesLine (codes "collect") words.now) result }
+{
+    Some(Line::Collect(fitting_number(only_one(words)?)?))
+}
+
+fn event(words: &[&str]) -> Option<Line>
+    ensures { Finds (WritesLine (codes "event") words.now) result }
+{
+    Some(Line::Event(fitting_number(only_one(words)?)?))
+}
+
 impl Packet {
     // A command's packet, with the value that the words write.
     fn read(command: Command, words: &[&str]) -> Result<Packet, Expected>
@@ -232,6 +249,11 @@ impl<'a> TryFrom<&'a [&'a str]> for Line {
             "reset" => line_alone(rest, Line::Reset).ok_or(Expected::Alone),
             "take" => line_alone(rest, Line::Take).ok_or(Expected::Alone),
             "close" => close(rest).ok_or(Expected::Close),
+            "collect" => collect(rest).ok_or(Expected::Collect),
+            "panel" => line_alone(rest, Line::Next(Reader::Panel)).ok_or(Expected::Alone),
+            "book" => line_alone(rest, Line::Next(Reader::Book)).ok_or(Expected::Alone),
+            "event" => event(rest).ok_or(Expected::Event),
+            "remove" => line_alone(rest, Line::Remove).ok_or(Expected::Alone),
             "pairs" => line_alone(rest, Line::Pairs).ok_or(Expected::Alone),
             "wires" => line_alone(rest, Line::Wires).ok_or(Expected::Alone),
             name => {

@@ -1,11 +1,15 @@
 ghost use Rattle.std.specs.Prelude.{◌≡◌, ℕ, Some};
 ghost use Rattle.board.specs.Commands.{code_table};
-ghost use Rattle.script.specs.Plays.{query_value, Shows, PlaysPlain, PlaysPacket, PlaysLine};
+ghost use Rattle.board.specs.Acts.{answer_of_unit};
+ghost use Rattle.board.specs.Runs.{board_state};
+ghost use Rattle.script.specs.Plays.{answer_of_reply, query_value, event_reply, place_reply, log_after_line, Shows, PlaysPlain, PlaysPacket, PlaysLine};
 ghost use Rattle.desk.specs.Desks.{board_of};
 
 use crate::line::{Line, Packet};
+use crate::log::Log;
 use crate::packet::{fetch, send};
 use crate::reply::Reply;
+use board::collect::EventRecord;
 use board::command::Command;
 use board::refusal::Refusal;
 use desk::desk::Desk;
@@ -74,20 +78,44 @@ pub fn pairs<S: Stage + Drop>(desk: &Desk<S>) -> Reply
     Reply::Pairs(board.pair(1), board.pair(2))
 }
 
-/// Plays a line on a board; no reply comes to a line that asks nothing of it.
-pub fn play<S: Wires + Drop>(desk: &mut Desk<S>, line: Line) -> Result<Option<Reply>, Refusal>
-    ensures { PlaysLine S.Stage S.codes line result (board_of desk.old) (board_of desk.new) }
+// The reply to an act that gives nothing.
+fn done(accepted: Result<(), Refusal>) -> Result<Reply, Refusal>
+    ensures { answer_of_reply result ≡ answer_of_unit accepted }
+{
+    accepted.map(|()| Reply::Done)
+}
+
+// The reply to a record that is read or taken out, or to none.
+fn event(found: Option<EventRecord>) -> Reply
+    ensures { result ≡ event_reply found }
+{
+    found.map_or(Reply::NoEvent, Reply::Event)
+}
+
+// The same of a record with the next place.
+fn event_at(found: Option<(EventRecord, u64)>) -> Reply
+    ensures { result ≡ place_reply found }
+{
+    match found {
+        Some((record, next)) => Reply::EventAt(record, next),
+        None => Reply::NoEvent,
+    }
+}
+
+/// Plays a line on a board and its log; no reply comes to a line that asks nothing of it.
+pub fn play<S: Wires + Drop>(
+    desk: &mut Desk<S>,
+    log: &mut Log<'_>,
+    line: Line,
+) -> Result<Option<Reply>, Refusal>
+    ensures line { PlaysLine S.Stage S.codes log.old line result (board_of desk.old)
+        (board_of desk.new) }
+    ensures log { log.new ≡ log_after_line (board_state (board_of desk.old)) line log.old }
 {
     Ok(Some(match line {
         Line::Nothing | Line::Board(_) => return Ok(None),
-        Line::Command(code) => {
-            desk.command(code)?;
-            Reply::Done
-        }
-        Line::Write(word) => {
-            desk.write(word)?;
-            Reply::Done
-        }
+        Line::Command(code) => done(desk.command(code))?,
+        Line::Write(word) => done(desk.write(word))?,
         Line::Read => Reply::Word(desk.read()?),
         Line::Cycle(one, two) => {
             desk.cycle(one, two);
@@ -109,6 +137,10 @@ pub fn play<S: Wires + Drop>(desk: &mut Desk<S>, line: Line) -> Result<Option<Re
                 Reply::NoSlip
             }
         }
+        Line::Collect(gate) => done(log.collect(desk, gate))?,
+        Line::Next(reader) => event(log.next(reader)),
+        Line::Event(place) => event_at(log.read(place)),
+        Line::Remove => event(log.remove()),
         Line::Pairs => pairs(desk),
         Line::Wires => Reply::Wires(desk.board().stage().codes()),
         Line::Packet(packet) => play_packet(desk, packet)?,

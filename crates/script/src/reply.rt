@@ -1,6 +1,7 @@
 ghost use Rattle.std.specs.Prelude.{Some};
-ghost use Rattle.script.specs.Prints.{answer_text, reply_text};
+ghost use Rattle.script.specs.Prints.{answer_text, event_text, reply_text};
 
+use board::collect::EventRecord;
 use board::refusal::Refusal;
 use stage::codes::Codes;
 use std::fmt;
@@ -16,6 +17,25 @@ pub enum Reply {
     Pairs((i32, i32), (i32, i32)),
     Wires(Codes),
     Value(i64),
+    Event(EventRecord),
+    // with the next place
+    EventAt(EventRecord, u64),
+    NoEvent,
+}
+
+// An event as it is printed.
+#[derive(Clone, Copy)]
+struct EventText(EventRecord);
+
+impl fmt::Display for EventText {
+    ghost output = { λ event. Some (event_text event.0) };
+
+    fn fmt<W: fmt::Write>(&self, f: &mut fmt::Formatter<W>) -> fmt::Result {
+        let EventRecord { gate, event, clock } = self.0;
+        let place = event.place();
+        let time = clock.time();
+        write!(f, "event {gate} {place} {time}")
+    }
 }
 
 impl fmt::Display for Reply {
@@ -30,6 +50,15 @@ impl fmt::Display for Reply {
             Reply::Pairs((a, b), (c, d)) => write!(f, "pairs {a} {b} {c} {d}"),
             Reply::Wires(codes) => write!(f, "wires {codes}"),
             Reply::Value(value) => write!(f, "value {value}"),
+            Reply::Event(record) => {
+                let event = EventText(record);
+                write!(f, "{event}")
+            }
+            Reply::EventAt(record, next) => {
+                let event = EventText(record);
+                write!(f, "{event} next {next}")
+            }
+            Reply::NoEvent => f.write_str("none"),
         }
     }
 }

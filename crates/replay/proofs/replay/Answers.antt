@@ -1,5 +1,7 @@
-use Rattle.std.proofs.Common.{length, subst, arith, rules}
+use Rattle.std.proofs.Common.{◌≡◌, ℕ, ◌-◌, length, subst, arith, rules}
 use Rattle.std.proofs.Math.Nat.{sub-zero}
+use Rattle.replay.specs.declared.lists.Lists.{Lists}
+use Rattle.replay.specs.Lists.{new_lists}
 use Rattle.replay.specs.Replays.{EndsList}
 use Rattle.replay.proofs.replay.Goals as goal
 
@@ -9,7 +11,8 @@ returns g c =
     let boards = c.new-boards.result in
     let first = c.new-boards.ensures in
     let last = c.play-played.new.self in
-    let out = c.play-played.new.out in (
+    let out = c.play-played.new.out in
+    let both : ◌≡◌ {A = Lists × ℕ} (c.new-lists.result, length c.args.room.now - 0) (new_lists, length c.args.room.now) = cc (c.new-lists.ensures, sub-zero (length c.args.room.now)) in (
       k.1,
       record {
         board_a = boards.a.board;
@@ -18,9 +21,10 @@ returns g c =
         new_b = first.b;
         last_a = last.a.board;
         last_b = last.b.board;
+        last_lists = c.play-played.new.lists;
         steps = k.0;
         ended =
-            subst (λ n. EndsList g.S.Stage g.R.Stage c.args.list.now boards.a.board boards.b.board c.play-played.result k.0 last.a.board last.b.board k.1 n) (sub-zero (length c.args.room.now)) k.2;
+            subst (λ z. EndsList g.S.Stage g.R.Stage c.args.list.now boards.a.board boards.b.board z.0 c.play-played.result k.0 last.a.board last.b.board c.play-played.new.lists k.1 z.1) both k.2;
       },
       search rules,
       omega (arith, k.3.len),

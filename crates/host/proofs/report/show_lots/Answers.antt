@@ -9,6 +9,6 @@ on_ok (Err e) p = tt
 
 pub returns : goal.returns
 returns g c =
-    let a = bench_of g.S.Stage (board_of c.work_lots.new.desk) c.in_ok-one.one c.in_ok-one.two in
-    let b = bench_of g.R.Stage (board_of c.work_lots-2.new.desk) c.in_ok-again.again c.in_ok-again._idle in
-    on_ok c.show_comparison-2.result ((a, c.in_ok-one.ensures, refl), (b, c.in_ok-again.ensures, refl))
+    let a = bench_of g.S.Stage (board_of c.work_lots.new.desk) c.work_lots.new.list c.in_ok-first.first in
+    let b = bench_of g.R.Stage (board_of c.work_lots-2.new.desk) c.work_lots-2.new.list c.in_ok-second.second in
+    on_ok c.show_comparison-2.result ((a, c.in_ok-first.ensures, refl, c.in_ok-show_book.ensures), (b, c.in_ok-second.ensures, refl, c.in_ok-show_book-2.ensures))

@@ -1,5 +1,5 @@
-use Rattle.std.proofs.Common.{rules, None, pos, Some, ◌<◌, ◌^◌}
-use Rattle.script.specs.Numbers.{WritesNumber}
+use Rattle.std.proofs.Common.{rules, None}
+use Rattle.script.specs.Lines.{WritesUnsigned}
 use Rattle.script.proofs.NumberLemmas.{unsigned_fitted}
 use Rattle.script.proofs.Unread.{no_run, none_of_one}
 use Rattle.script.proofs.line.run.Goals as goal
@@ -7,4 +7,4 @@ use Rattle.script.proofs.line.run.Goals as goal
 pub returns-in_err-fitting_number : goal.returns-in_err-fitting_number
 returns-in_err-fitting_number c =
     let none = unsigned_fitted _ 32 c.in_ok-only_one.field-0.now None c.in_err-fitting_number.ensures in
-    rw c.from_residual-in_err-fitting_number.ensures (no_run c.args.words.now (λ n. none_of_one (λ t. (n < 2 ^ 32) × WritesNumber t (Some (pos n))) c.args.words.now c.in_ok-only_one.field-0 (search rules) (none n)))
+    rw c.from_residual-in_err-fitting_number.ensures (no_run c.args.words.now (λ n. none_of_one (λ t. WritesUnsigned 32 t n) c.args.words.now c.in_ok-only_one.field-0 (search rules) (none n)))

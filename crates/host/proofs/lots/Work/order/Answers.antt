@@ -1,17 +1,7 @@
-use Rattle.std.proofs.Common.{rules, ◌≡◌, ℕ, ◌∷◌, [], ◌++◌, ◌∙◌, ap, subst, OnOk, drop}
-use Rattle.std.specs.Int.{w32, cast_unsigned}
-use Rattle.gate.specs.declared.orders.LongOrder.TheVariants.{Destination}
-use Rattle.board.specs.declared.command.Command.TheVariants as command
-use Rattle.script.specs.declared.line.Packet.TheVariants as packet
-use Rattle.host.specs.Works.{NotesPackets, Notes, notes_of, load_packets}
+use Rattle.std.proofs.lemmas.Result.{on_ok_weaker}
+use Rattle.host.specs.Works.{notes_of}
 use Rattle.host.proofs.lots.Work.order.Goals as goal
 
 pub returns : goal.returns
 returns g c =
-    let x = notes_of c.args.self.now in
-    let noted = ap (λ os. record x { outcomes = os }) (c.in_ok-push.ensures.items ∙ ap (λ o. x.outcomes ++ (o ∷ [])) c.new.ensures) in
-    let P = λ (d : ℕ) (y : Notes). OnOk c.send.result (NotesPackets g.S.Stage
-    (packet.Plain (command.Status x.named) ∷ (packet.Long (command.Long Destination) d ∷ drop 2 (load_packets x.named c.args.lot)))
-    y c.args.desk.now.board (notes_of c.send.new.self) c.send.new.desk.board) in
-    let bits : c.cast_unsigned-destination.result ≡ cast_unsigned w32 c.args.lot.destination = search rules in
-    subst (P _) noted (subst (λ (d : ℕ). P d (notes_of (record c.args.self.now { outcomes = c.push.new.self }))) bits c.send.ensures)
+    on_ok_weaker c.collect.result (λ collected. (notes_of c.load.new.self, c.load.new.desk.board, c.in_ok-load.ensures, collected)) c.collect.ensures

@@ -5,6 +5,7 @@ use Rattle.stage.specs.declared.Stage.{Ghosts}
 use Rattle.board.specs.declared.board.Board.{Board}
 use Rattle.replay.specs.declared.entry.Step.{Step}
 use Rattle.replay.specs.declared.fault.Fault.TheVariants.{NoRoom}
+use Rattle.replay.specs.declared.lists.Lists.{Lists}
 use Rattle.replay.specs.Entries.{Begins}
 use Rattle.replay.specs.Replays.{PlaysStep, PlaysSteps, EndsList}
 use Rattle.replay.proofs.Writes.{both, filled, crowded}
@@ -19,11 +20,12 @@ begun : (rest behind : List ℕ) (s : Step) → 1 ≤ length rest → Begins (ge
 begun rest behind s some begins = (opened rest some ∙ begins.0, begins.1)
 
 -- one step more
-module _ {S R : Type 0} (m : Ghosts S) (n : Ghosts R) (xs : List ℕ) (a : Board S m) (b : Board R n) (ss : List Step) (s : Step) where
-  one_more : (rest behind : List ℕ) (g c : Board S m) (h d : Board R n) (old more : List ℕ) → 1 ≤ length rest
-      → PlaysSteps m n xs a b ss rest g h old → Begins (get_or rest 0 0 ∷ take (length rest - 1) (drop 1 rest)) s behind
-      → PlaysStep m n s.side s.entry g c h d more → PlaysSteps m n xs a b (s ∷ ss) behind c d (old ++ more)
-  one_more rest behind g c h d old more some played begins turn = (rest, g, h, old, more, played, begun rest behind s some begins, turn, refl)
+module _ {S R : Type 0} (m : Ghosts S) (n : Ghosts R) (xs : List ℕ) (a : Board S m) (b : Board R n) (u : Lists) (ss : List Step) (s : Step) where
+  one_more : (rest behind : List ℕ) (g c : Board S m) (h d : Board R n) (w v : Lists) (old more : List ℕ) → 1 ≤ length rest
+      → PlaysSteps m n xs a b u ss rest g h w old → Begins (get_or rest 0 0 ∷ take (length rest - 1) (drop 1 rest)) s behind
+      → PlaysStep m n s.side s.entry g c h d w v more → PlaysSteps m n xs a b u (s ∷ ss) behind c d v (old ++ more)
+  one_more rest behind g c h d w v old more some played begins turn =
+      (rest, g, h, w, old, more, played, begun rest behind s some begins, turn, refl)
 
 pub loop-rest-preserved : goal.loop-rest-preserved
 loop-rest-preserved g c =
@@ -34,7 +36,7 @@ loop-rest-preserved g c =
     let s = c.in_ok-step.step in (
       s ∷ i.0,
       i.1 ++ turn.0,
-      one_more g.S.Stage g.R.Stage _ _ _ i.0 s _ _ before.a.board after.a.board before.b.board after.b.board i.1 turn.0 c.in-len1-up.len_at_least i.2 c.in_ok-step.ensures turn.1,
+      one_more g.S.Stage g.R.Stage _ _ _ _ i.0 s _ _ before.a.board after.a.board before.b.board after.b.board c.loop-rest.lists c.turn.new.lists i.1 turn.0 c.in-len1-up.len_at_least i.2 c.in_ok-step.ensures turn.1,
       both i.3 turn.2,
     )
 
@@ -52,7 +54,7 @@ returns-in_err-turn g c =
     let begins = begun c.loop-rest.rest.now c.in_ok-step.behind.now s c.in-len1-up.len_at_least c.in_ok-step.ensures in (
       i.0,
       i.1,
-      subst (λ e. EndsList g.S.Stage g.R.Stage c.args.list.now first.a.board first.b.board e i.0 after.a.board after.b.board i.1 (length o.bytes.now - o.len)) (sym full)
-          (s, c.loop-rest.rest.now, c.in_ok-step.behind.now, before.a.board, before.b.board, turn.0, i.2, begins, turn.1, crowded i.3 turn.2.1),
+      subst (λ e. EndsList g.S.Stage g.R.Stage c.args.list.now first.a.board first.b.board c.args.lists.now e i.0 after.a.board after.b.board c.turn.new.lists i.1 (length o.bytes.now - o.len)) (sym full)
+          (s, c.loop-rest.rest.now, c.in_ok-step.behind.now, before.a.board, before.b.board, c.loop-rest.lists, turn.0, i.2, begins, turn.1, crowded i.3 turn.2.1),
       filled i.3 turn.2.1,
     )

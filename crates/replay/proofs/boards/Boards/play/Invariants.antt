@@ -8,7 +8,7 @@ use Rattle.replay.proofs.boards.Boards.play.Given as goal
 abbrev pub invariant-loop-rest : goal.invariant-loop-rest
 invariant-loop-rest g l =
     (ss : List Step) × (bytes : List ℕ)
-    × PlaysSteps g.S.Stage g.R.Stage l.list l.initial.self.a.board l.initial.self.b.board ss l.rest l.self.a.board l.self.b.board bytes
+    × PlaysSteps g.S.Stage g.R.Stage l.list l.initial.self.a.board l.initial.self.b.board l.initial.lists ss l.rest l.self.a.board l.self.b.board l.lists bytes
     × Appends l.initial.out l.out bytes
 
 abbrev pub decreases-loop-rest : goal.decreases-loop-rest
