@@ -824,28 +824,27 @@ pub fn timed() -> Vec<Timed> {
     lists
 }
 
-/// The dearest cycle, in which each gate's search asks all it may, and the same list without that
-/// cycle.
-pub fn dearest() -> [Timed; 2] {
-    [("dearest", 1), ("dearest, before", 0)].map(|(name, cycles)| {
-        let mut timing = Timing {
-            maker: Maker::new(Rng::new(1, 1), false),
-            runs: false,
-        };
-        timing.power();
-        for gate in 1..=2 {
-            timing.select(gate);
-            timing.send(0x10, 16_000);
-            timing.send(0x11, END - 1);
-            timing.send(0x12, -END);
+/// Lists that end with one dear cycle, each behind the same list without that cycle.
+pub fn dear() -> Vec<Timed> {
+    type Fill = fn(&mut Timing);
+    let kinds: [(&str, Fill); 2] = [("dearest", dearest), ("dearest of a motor", dearest_motor)];
+    let mut lists = Vec::new();
+    for (name, fill) in kinds {
+        for (when, cycles) in [(", before", 0), ("", 1)] {
+            let mut timing = Timing {
+                maker: Maker::new(Rng::new(1, 1), false),
+                runs: false,
+            };
+            timing.power();
+            fill(&mut timing);
+            timing.cycles(cycles);
+            lists.push(Timed {
+                name: format!("{name}{when}"),
+                list: timing.end(),
+            });
         }
-        timing.send_word(0x5b, 3);
-        timing.cycles(cycles);
-        Timed {
-            name: name.to_string(),
-            list: timing.end(),
-        }
-    })
+    }
+    lists
 }
 
 /// A list to be timed, in the making; both gates of board a do the same kind of thing.
@@ -878,6 +877,17 @@ impl Timing {
         }
     }
 
+    /// The same move for both gates, at the largest velocity.
+    fn send_both(&mut self, destination: i64, acceleration: i64) {
+        for gate in 1..=2 {
+            self.select(gate);
+            self.send(0x10, destination);
+            self.send(0x11, END - 1);
+            self.send(0x12, acceleration);
+        }
+        self.send_word(0x5b, 3);
+    }
+
     fn cycles(&mut self, cycles: i64) {
         if self.runs {
             self.maker.run(Side::A, cycles);
@@ -896,6 +906,21 @@ impl Timing {
         self.maker.look(Side::A);
         self.maker.list
     }
+}
+
+/// From rest, at the largest acceleration, to a destination that is near: each gate's search asks
+/// all it may.
+fn dearest(timing: &mut Timing) {
+    timing.send_both(16_000, -END);
+}
+
+/// At 1,024 microsteps a cycle each cycle, the most that docs/SPEED.md takes a motor to have: two
+/// cycles at it, and then a destination that the speed halfway between that and slowing down
+/// by it just allows.
+fn dearest_motor(timing: &mut Timing) {
+    timing.send_both(-END, 1 << 26);
+    timing.cycles(2);
+    timing.send_both(-5_120, 1 << 26);
 }
 
 fn cruise(timing: &mut Timing) {

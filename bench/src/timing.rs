@@ -107,7 +107,7 @@ pub fn play(board: &str, kind: &str) -> ExitCode {
         "other" => foreign::replay,
         _ => return ExitCode::from(2),
     };
-    let mut lists = lists::timed().into_iter().chain(lists::dearest());
+    let mut lists = lists::timed().into_iter().chain(lists::dear());
     let Some(Timed { list, .. }) = lists.find(|timed| timed.name == kind) else {
         return ExitCode::from(2);
     };

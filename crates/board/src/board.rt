@@ -79,6 +79,7 @@ impl<S: Stage + Drop> Board<S> {
 
     /// One cycle of both gates, of what the encoders (in counts) and the switches bring: `one` to gate 1, `two` to gate 2. The phases
     /// of both are shown. It has no refusal, and an open packet stays open.
+    #[inline(always)]
     #[tactic(auto, unfolding(crate::specs::Acts::HasSoundTable))]
     pub fn cycle(&mut self, one: Inputs, two: Inputs)
         ensures { Performs S.Stage (act_cycle one two) answer_done self.old self.new }

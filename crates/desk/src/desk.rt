@@ -92,6 +92,7 @@ impl<S: Stage + Drop> Desk<S> {
     }
 
     /// One cycle of both gates: `Board::cycle`.
+    #[inline(never)]
     pub fn cycle(&mut self, one: Inputs, two: Inputs)
         ensures { Performs S.Stage (act_cycle one two) answer_done self.old.board self.new.board }
     {
@@ -99,11 +100,12 @@ impl<S: Stage + Drop> Desk<S> {
     }
 
     /// So many cycles in which no gate's encoder counts and no switch is active.
+    #[inline(never)]
     pub fn run(&mut self, cycles: u32)
         ensures { RunsCycles S.Stage cycles self.old.board self.new.board }
     {
         for _turn in 0..cycles {
-            self.cycle(Inputs::STILL, Inputs::STILL);
+            self.board.cycle(Inputs::STILL, Inputs::STILL);
         }
     }
 

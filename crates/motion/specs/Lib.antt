@@ -1,3 +1,4 @@
 pub mod StoppingDistance
+pub mod Tester
 pub mod Speed
 pub mod Course

@@ -1,5 +1,5 @@
-ghost use Rattle.std.specs.Prelude.{◌≡◌, ◌*◌, ◌%◌, ◌^◌, ◌<◌, ◌≤◌, max, pos, ◌-ℤ◌, ◌≤ℤ◌, ◌<ℤ◌, unsigned_abs};
-ghost use Rattle.motion.specs.Course.{IsWithin, next_target, with_sign_of, next_actual, is_crossing_end, cruise, distance_to, must_decelerate, toward, microsteps, wrap};
+ghost use Rattle.std.specs.Prelude.{◌≡◌, ◌*◌, ◌%◌, ◌^◌, ◌<◌, ◌≤◌, max, pos, ◌-ℤ◌, ◌<ℤ◌, ◌≤ℤ◌, unsigned_abs};
+ghost use Rattle.motion.specs.Course.{IsWithin, next_target, with_sign_of, next_actual, is_crossing_end, cruise, distance_to, toward, microsteps, wrap};
 
 /// A microstep in the unit of target positions.
 pub const MICROSTEP: i64 = 65_536;
@@ -25,26 +25,12 @@ pub fn toward(v: i32, target: i32, by: u32) -> i32
 
 // The size with the sign of `d`.
 #[tactic(auto, using(crate::proofs::Velocities::with_sign_of_back, crate::proofs::Velocities::with_sign_of_on))]
-pub(crate) fn with_sign_of(d: i64, size: u32) -> i32
+fn with_sign_of(d: i64, size: u32) -> i32
     requires { size < 2 ^ 30 }
     ensures is { result ≡ with_sign_of d size }
     ensures size { unsigned_abs result ≡ size }
 {
     if d < 0 { -(size as i32) } else { size as i32 }
-}
-
-// Whether nothing is left to travel, or `v` runs against the distance.
-#[tactic(auto, using(crate::proofs::Velocities::must_decelerate_on, crate::proofs::Velocities::must_decelerate_back, crate::proofs::Velocities::must_decelerate_there))]
-pub(crate) fn must_decelerate(v: i32, distance: i64) -> bool
-    ensures { result ≡ must_decelerate v distance }
-{
-    if distance == 0 {
-        true
-    } else if distance > 0 {
-        v < 0
-    } else {
-        v > 0
-    }
 }
 
 /// The next velocity toward `top` in the direction of the acceleration.

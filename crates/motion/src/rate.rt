@@ -1,14 +1,11 @@
-ghost use Rattle.std.specs.Prelude.{◌≡◌, ◌+◌, ◌-◌, ◌^◌, ◌<◌, ◌≤◌, max, nat_le, ◌-ℤ◌, unsigned_abs};
+ghost use Rattle.std.specs.Prelude.{◌≡◌, ◌+◌, ◌-◌, ◌^◌, ◌<◌, ◌≤◌, Some, min, max, pos, ◌-ℤ◌, unsigned_abs};
 ghost use Rattle.motion.specs.StoppingDistance.{stopping_distance};
-ghost use Rattle.motion.specs.Speed.{largest_speed, IsLargestSpeed};
+ghost use Rattle.motion.specs.Tester.{new_tester, TestsAlike};
 ghost use Rattle.motion.specs.Course.{next_speed, trapezoid};
 
-use crate::course::{must_decelerate, toward, with_sign_of};
-
-// The widest span that `bisect` takes: 29 halvings leave 1 of it.
-const SPAN: u32 = 1 << 29;
-
-const HALVINGS: u32 = 29;
+use crate::course::toward;
+use crate::search::largest_speed;
+use crate::tester::Tester;
 
 /// By how much the speed of a gate may change in a cycle, in 1/65,536 microstep a cycle.
 #[derive(Clone, Copy, PartialEq, Eq, Debug)]
@@ -30,77 +27,38 @@ impl Rate {
         (whole + 1) * (u64::from(speed) + rest) / 2
     }
 
-    /// Whether a gate at that speed can still stop within the distance.
-    pub fn fits(self, speed: u32, distance: u64) -> bool
-        requires { speed < 2 ^ 30 }
-        ensures { result ≡ nat_le (stopping_distance self.size speed) distance }
-    {
-        self.stopping_distance(speed) <= distance
-    }
-
-    // Narrows a span whose low end fits and whose high end does not, by at most 29 questions.
-    #[inline(never)]
-    fn bisect(self, distance: u64, mut low: u32, mut high: u32) -> u32
-        requires order { low < high }
-        requires speed { high < 2 ^ 30 }
-        requires span { high ≤ low + 2 ^ 29 }
-        requires fits { stopping_distance self.size low ≤ distance }
-        requires over { distance < stopping_distance self.size high }
-        ensures within { result < high }
-        ensures fits { stopping_distance self.size result ≤ distance }
-        ensures over { distance < stopping_distance self.size (result + 1) }
-    {
-        for _turn in 0..HALVINGS {
-            if high - low == 1 {
-                break;
-            }
-            let middle = (low + high) / 2;
-            if self.fits(middle, distance) {
-                low = middle;
-            } else {
-                high = middle;
-            }
-        }
-        low
-    }
-
-    /// The greatest speed up to `top` whose stopping distance is at most the distance, but at least the floor. The first question is the
-    /// top. The second is whether more than the floor fits, so that a gate that slows all it can asks no third, unless the top lies more
-    /// than SPAN above: then it is the speed that lies SPAN below the top. None asks more than 31.
-    #[tactic(auto, using(crate::proofs::Falling::stopping_distance_zero, crate::proofs::Fastest::largest_all, crate::proofs::Fastest::largest_below, crate::proofs::Fastest::largest_found))]
-    pub fn largest_speed(self, distance: u64, floor: u32, top: u32) -> u32
-        requires floor { floor < 2 ^ 30 }
-        requires top { top < 2 ^ 30 }
-        ensures is { result ≡ max (largest_speed self.size distance top) floor }
-        ensures best { floor < result → IsLargestSpeed self.size distance top result }
-    {
-        if floor >= top {
-            return floor;
-        }
-        if self.fits(top, distance) {
-            return top;
-        }
-        let next = floor + 1;
-        let pivot = next.max(top.saturating_sub(SPAN));
-        if self.fits(pivot, distance) {
-            self.bisect(distance, pivot, top)
-        } else if pivot == next {
-            floor
-        } else {
-            self.bisect(distance, 0, pivot).max(floor)
-        }
-    }
-
-    // The next speed of a gate that runs toward its destination, or stands.
+    /// The next speed of a gate that runs toward its destination at the distance, or stands, and the tester that its search asked: speeds in
+    /// 1/65,536 microstep a cycle.
+    #[inline(always)]
     #[tactic(auto, unfolding(crate::specs::Course::next_speed))]
-    fn next_speed(self, speed: u32, top: u32, distance: u64) -> u32
+    pub fn next_speed(self, speed: u32, top: u32, distance: u64) -> (u32, Tester)
         requires speed { speed < 2 ^ 30 }
         requires top { top < 2 ^ 30 }
-        ensures is { result ≡ next_speed speed top self.size distance }
-        ensures range { result < 2 ^ 30 }
+        ensures is { result.0 ≡ next_speed speed top self.size distance }
+        ensures range { result.0 < 2 ^ 30 }
+        ensures first { result.1.first ≡ Some (min top (speed + self.size)) }
+        ensures once { stopping_distance self.size (min top (speed + self.size)) ≤ distance → result.1.asked ≡ 1 }
+        ensures few { result.1.asked ≤ 31 }
+        ensures tests { TestsAlike (new_tester self.size distance) result.1 }
     {
         let slowed = speed.saturating_sub(self.size);
-        self.largest_speed(distance, slowed, top.min(speed + self.size))
+        let tester = Tester::new(self, distance);
+        largest_speed(tester, slowed, top.min(speed + self.size))
+    }
+
+    // The next velocity of a gate whose destination lies ahead, or where it is.
+    #[inline(always)]
+    fn forward(self, v: i32, top: u32, distance: u64) -> i32
+        requires speed { unsigned_abs v < 2 ^ 30 }
+        requires top { top < 2 ^ 30 }
+        ensures is { result ≡ trapezoid v top self.size (pos distance) }
+        ensures range { unsigned_abs result < 2 ^ 30 }
+    {
+        if v < 0 || distance == 0 {
+            return toward(v, 0, self.size);
+        }
+        let (speed, _) = self.next_speed(v.unsigned_abs(), top, distance);
+        speed as i32
     }
 
     /// The next velocity on the way to a destination at the distance. A gate that can stop within the distance still can after this cycle.
@@ -117,10 +75,10 @@ impl Rate {
             unsigned_abs distance }
         ensures range { unsigned_abs result < 2 ^ 30 }
     {
-        if must_decelerate(v, distance) {
-            return toward(v, 0, self.size);
+        if distance < 0 {
+            -self.forward(-v, top, distance.unsigned_abs())
+        } else {
+            self.forward(v, top, distance.unsigned_abs())
         }
-        let speed = self.next_speed(v.unsigned_abs(), top, distance.unsigned_abs());
-        with_sign_of(distance, speed)
     }
 }

@@ -1,0 +1,9 @@
+use Rattle.std.proofs.Common.{◌≡◌, ◌*◌, ◌≤◌}
+use Rattle.motion.specs.StoppingDistance.{stopping_distance}
+use Rattle.motion.proofs.tester.Tester.guess.Given as goal
+
+abbrev pub invariant-loop-turn : goal.invariant-loop-turn
+invariant-loop-turn l =
+    (l.terms ≤ l.top)
+    × (l.terms * l.self-inside.rate.size ≤ l.top)
+    × (l.covered ≡ stopping_distance l.self-inside.rate.size (l.terms * l.self-inside.rate.size))
