@@ -918,9 +918,9 @@ fn dearest(timing: &mut Timing) {
 /// cycles at it, and then a destination that the speed halfway between that and slowing down
 /// by it just allows.
 fn dearest_motor(timing: &mut Timing) {
-    timing.send_both(-END, 1 << 26);
+    timing.send_both(END - 1, 1 << 26);
     timing.cycles(2);
-    timing.send_both(-5_120, 1 << 26);
+    timing.send_both(5_120, 1 << 26);
 }
 
 fn cruise(timing: &mut Timing) {

@@ -1,6 +1,5 @@
 -- What a contract sees of a tester, and what a question makes of it.
-use Rattle.std.specs.Prelude.{◌≡◌, ℕ, ◌+◌, Option, Some, None, unwrap_or, refl}
-use Rattle.std.specs.Coded.{Coded, code_by, coded×, coded_option, coded_ℕ}
+use Rattle.std.specs.Prelude.{◌≡◌, ℕ, ◌+◌, Option, Some, None, unwrap_or}
 
 -- the rate and the distance by which it tests speeds, the first speed that it was asked, if any, and how many it was asked
 pub record TesterState : Type 0 where
@@ -9,20 +8,13 @@ pub record TesterState : Type 0 where
   pub first : Option ℕ
   pub asked : ℕ
 
-abbrev pub tester_code : Coded TesterState
-tester_code =
-    code_by ((ℕ × ℕ) × (Option ℕ × ℕ)) (coded× (coded× coded_ℕ coded_ℕ) (coded× (coded_option coded_ℕ) coded_ℕ))
-    (λ t. ((t.rate, t.distance), (t.first, t.asked)))
-    (λ p. record { rate = p.0.0; distance = p.0.1; first = p.1.0; asked = p.1.1 })
-    (λ _. refl)
-
 -- a tester that was asked nothing
 abbrev pub new_tester : ℕ → ℕ → TesterState
 new_tester rate distance = record { rate = rate; distance = distance; first = None; asked = 0 }
 
 -- the tester after one speed more
-abbrev pub asked_of : TesterState → ℕ → TesterState
-asked_of t speed = record t { first = Some (unwrap_or t.first speed); asked = t.asked + 1 }
+abbrev pub with_question : TesterState → ℕ → TesterState
+with_question t speed = record t { first = Some (unwrap_or t.first speed); asked = t.asked + 1 }
 
 -- a tester that tests as another does
 pub record TestsAlike (old new : TesterState) : Type 0 where

@@ -43,8 +43,7 @@ impl Search {
         ensures open { IsTrue result → self.now.low + 1 < self.now.high }
         ensures halved { IsTrue result → self.now.high ≤ self.now.low + 2 ^ (30 - self.now.tester.asked) }
     {
-        let left = QUESTIONS - self.tester.asked();
-        self.width() > 1 && left > 0 && self.width() <= 1 << (left - 1)
+        self.width() > 1 && self.width() <= 1 << (QUESTIONS - 1 - self.tester.asked())
     }
 
     // Asks for a speed between low and high, where the questions left after it can halve either side, and answers whether it is allowed.

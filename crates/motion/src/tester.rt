@@ -1,6 +1,6 @@
 ghost use Rattle.std.specs.Prelude.{◌≡◌, ◌+◌, ◌^◌, ◌<◌, ◌≤◌, ◌↔◌, IsTrue};
 ghost use Rattle.motion.specs.StoppingDistance.{stopping_distance};
-ghost use Rattle.motion.specs.Tester.{new_tester, asked_of};
+ghost use Rattle.motion.specs.Tester.{new_tester, with_question};
 
 use crate::rate::Rate;
 use std::marker::Model;
@@ -16,11 +16,9 @@ pub struct Tester {
 }
 
 impl Model for Tester {
-    ghost use Rattle.motion.specs.Tester.{TesterState, tester_code};
+    ghost use Rattle.motion.specs.Tester.{TesterState};
 
     ghost Value = { TesterState };
-
-    ghost coded = { tester_code };
 
     ghost view = { λ t. record { rate = t.rate.size; distance = t.distance; first = t.first; asked = t.asked } };
 }
@@ -45,7 +43,7 @@ impl Tester {
         requires speed { speed < 2 ^ 30 }
         requires countable { self.old.asked + 1 < 2 ^ 32 }
         ensures answer { IsTrue result ↔ (stopping_distance self.old.rate speed ≤ self.old.distance) }
-        ensures asked { self.new ≡ asked_of self.old speed }
+        ensures asked { self.new ≡ with_question self.old speed }
         ensures positive { 1 ≤ self.old.rate }
     {
         self.first = self.first.or(Some(speed));
@@ -55,8 +53,8 @@ impl Tester {
 
     /// A speed worth asking where the top is not allowed, by the closed form of the stopping distance; nothing is promised of it. It is
     /// the answer where that lies no more than two accelerations below the top, as in a move.
-    // `covered` is the stopping distance of `terms` whole accelerations. Each unit of speed above them, up to one more, adds one for each of
-    // them and one.
+    // `covered` is the stopping distance of `terms` whole accelerations. Up to one more, each unit of speed above them adds one for each of
+    // them and one. What is left to cover then has 32 bits.
     #[inline(always)]
     pub fn guess(&self, top: u32) -> u32
         requires { top < 2 ^ 30 }

@@ -27,7 +27,10 @@ fn tests_speeds(rt: HostRuntime) {
     assert_eq!(rt; tester.asked(), 3);
 }
 
+// The largest speed there is, and as a velocity.
 const FAR: u32 = 1_073_741_823;
+
+const FASTEST: i32 = 1_073_741_823;
 
 // A search of numbers in range: the speed found, the first speed asked and how many were asked.
 fn search(size: u32, distance: u64, floor: u32, top: u32) -> (u32, Option<u32>, u32) {
@@ -258,6 +261,15 @@ fn travels_far(rt: HostRuntime) {
     assert_eq!(rt;
         Rate { size: 731_622_485 }.trapezoid(-73_869_431, 605_748_411, 62_815_843_116_080),
         0
+    );
+    // at the ends of what can be
+    let largest = Rate { size: 1 << 30 };
+    let farthest = 140_737_488_355_327;
+    assert_eq!(rt; largest.trapezoid(-FASTEST, FAR, -farthest), -FASTEST);
+    assert_eq!(rt; largest.trapezoid(-FASTEST, FAR, farthest), 0);
+    assert_eq!(rt;
+        Rate { size: 1 }.trapezoid(-FASTEST, 0, -farthest),
+        1 - FASTEST
     );
 }
 
