@@ -45,11 +45,8 @@ def asked(floor, top, a, d):
         return high - low > 1 and high - low <= 2 ** (30 - count)
 
     if free() and ask(low + 1) and free():
-        if ask(min(max(best, low + 1), high - 1)):
-            if free():
-                ask(low + 1)
-        elif free():
-            ask(high - 1)
+        if ask(min(max(best, low + 1), high - 1)) and free():
+            ask(low + 1)
     while high - low > 1:
         ask((low + high) // 2)
     return count
@@ -70,7 +67,7 @@ class Rng:
 
 
 def moves(seed, count, bits):
-    """The searches of moves from rest to rest, by how many speeds they ask: up to 4, and more; and the largest number."""
+    """The searches of moves from rest, each until it arrives or for 4,000 cycles, by how many speeds they ask: 1 to 4, and more."""
     rng, asks = Rng(seed), Counter()
     for _ in range(count):
         top = rng.next() % 2**23 + 1

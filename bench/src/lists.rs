@@ -914,9 +914,9 @@ fn dearest(timing: &mut Timing) {
     timing.send_both(16_000, -END);
 }
 
-/// At 1,024 microsteps a cycle each cycle, the most that docs/SPEED.md takes a motor to have: two
-/// cycles at it, and then a destination that the speed halfway between that and slowing down
-/// by it just allows.
+/// At 1,024 microsteps a cycle each cycle, the most that docs/SPEED.md takes a motor to have. Two
+/// cycles bring each gate to 2,048; then it is sent to a destination that 1,536 just allows, so that
+/// its search asks for 3,072, for the speed above 1,024, for the guess and for the speed above it.
 fn dearest_motor(timing: &mut Timing) {
     timing.send_both(END - 1, 1 << 26);
     timing.cycles(2);

@@ -1,5 +1,5 @@
 -- The sum of a falling speed: how many terms it takes, its order and its closed form.
-use Rattle.std.proofs.Common.{◌≡◌, ℕ, zero, suc, ◌+◌, ◌-◌, ◌*◌, ◌/◌, ◌<◌, ◌≤◌, sym, refl, ap, ◌∙◌, le_refl, suc-mul, mul_comm, add-mul, add_comm, mul-le-mul_left, mul_assoc, mul-zero, zero-mul, mul-one, mul-add, add-zero, arith}
+use Rattle.std.proofs.Common.{◌≡◌, ℕ, zero, suc, ◌+◌, ◌-◌, ◌*◌, ◌/◌, ◌<◌, ◌≤◌, sym, refl, ap, ◌∙◌, le_refl, suc-mul, mul_comm, add-mul, add_comm, mul-le-mul_left, mul_assoc, mul-zero, zero-mul, mul-one, mul-add, arith}
 use native.Mathlib.Nat.{zero-sub, mul-sub, lt-div-mul-add}
 use Rattle.motion.specs.StoppingDistance.{falling_sum, stopping_distance}
 
@@ -111,17 +111,4 @@ stopping_distance_closed rate s q r h e l =
       ap (λ (x : ℕ). n * x) e ∙ mul-add n (q * rate) r,
       mul_assoc n q rate,
       mul_comm (n * q) rate,
-    )
-
--- above a whole number of rates, up to the next, each unit of speed adds that number and one
-pub stopping_distance_above : (rate s q r : ℕ) → 0 < rate → s ≡ q * rate + r → r < rate
-    → stopping_distance rate s ≡ stopping_distance rate (q * rate) + (q + 1) * r
-stopping_distance_above rate s q r h e l =
-    omega (
-      arith,
-      stopping_distance_closed rate s q r h e l,
-      stopping_distance_closed rate (q * rate) q 0 h (omega arith) h,
-      mul-add (q + 1) s r,
-      ap (λ (x : ℕ). (q + 1) * x) e ∙ mul-add (q + 1) (q * rate) r,
-      ap (λ (x : ℕ). (q + 1) * x) (add-zero (q * rate)),
     )

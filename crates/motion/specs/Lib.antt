@@ -2,3 +2,4 @@ pub mod StoppingDistance
 pub mod Tester
 pub mod Speed
 pub mod Course
+pub mod Search

@@ -16,7 +16,7 @@ new_tester rate distance = record { rate = rate; distance = distance; first = No
 abbrev pub with_question : TesterState → ℕ → TesterState
 with_question t speed = record t { first = Some (unwrap_or t.first speed); asked = t.asked + 1 }
 
--- a tester that tests as another does
-pub record TestsAlike (old new : TesterState) : Type 0 where
+-- the new tester tests as the old one does
+pub record TestAlike (old new : TesterState) : Type 0 where
   pub rate : new.rate ≡ old.rate
   pub distance : new.distance ≡ old.distance

@@ -1,6 +1,6 @@
 ghost use Rattle.std.specs.Prelude.{◌≡◌, ◌+◌, ◌-◌, ◌^◌, ◌<◌, ◌≤◌, Some, min, max, pos, ◌-ℤ◌, unsigned_abs};
 ghost use Rattle.motion.specs.StoppingDistance.{stopping_distance};
-ghost use Rattle.motion.specs.Tester.{new_tester, TestsAlike};
+ghost use Rattle.motion.specs.Tester.{new_tester, TestAlike};
 ghost use Rattle.motion.specs.Course.{next_speed, trapezoid};
 
 use crate::course::toward;
@@ -27,8 +27,8 @@ impl Rate {
         (whole + 1) * (u64::from(speed) + rest) / 2
     }
 
-    /// The next speed of a gate that runs toward its destination at the distance, or stands, and the tester that its search asked: speeds in
-    /// 1/65,536 microstep a cycle.
+    /// The next speed of a gate that stands, or runs toward a destination that lies the distance ahead, and the tester that the search for
+    /// it asked; `top` is the velocity register, and speeds are in 1/65,536 microstep a cycle.
     #[inline(always)]
     #[tactic(auto, unfolding(crate::specs::Course::next_speed))]
     pub fn next_speed(self, speed: u32, top: u32, distance: u64) -> (u32, Tester)
@@ -37,9 +37,11 @@ impl Rate {
         ensures is { result.0 ≡ next_speed speed top self.size distance }
         ensures range { result.0 < 2 ^ 30 }
         ensures first { result.1.first ≡ Some (min top (speed + self.size)) }
-        ensures once { stopping_distance self.size (min top (speed + self.size)) ≤ distance → result.1.asked ≡ 1 }
+        ensures once { stopping_distance self.size (min top (speed + self.size)) ≤ distance →
+            result.1.asked ≡ 1 }
+        ensures alone { top ≤ speed - self.size → result.1.asked ≡ 1 }
         ensures few { result.1.asked ≤ 31 }
-        ensures tests { TestsAlike (new_tester self.size distance) result.1 }
+        ensures tests { TestAlike (new_tester self.size distance) result.1 }
     {
         let slowed = speed.saturating_sub(self.size);
         let tester = Tester::new(self, distance);
@@ -48,7 +50,7 @@ impl Rate {
 
     // The next velocity of a gate whose destination lies ahead, or where it is.
     #[inline(always)]
-    fn forward(self, v: i32, top: u32, distance: u64) -> i32
+    fn trapezoid_ahead(self, v: i32, top: u32, distance: u64) -> i32
         requires speed { unsigned_abs v < 2 ^ 30 }
         requires top { top < 2 ^ 30 }
         ensures is { result ≡ trapezoid v top self.size (pos distance) }
@@ -76,9 +78,9 @@ impl Rate {
         ensures range { unsigned_abs result < 2 ^ 30 }
     {
         if distance < 0 {
-            -self.forward(-v, top, distance.unsigned_abs())
+            -self.trapezoid_ahead(-v, top, distance.unsigned_abs())
         } else {
-            self.forward(v, top, distance.unsigned_abs())
+            self.trapezoid_ahead(v, top, distance.unsigned_abs())
         }
     }
 }

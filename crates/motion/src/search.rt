@@ -1,7 +1,7 @@
-ghost use Rattle.std.specs.Prelude.{◌≡◌, ℕ, ◌+◌, ◌-◌, ◌^◌, ◌<◌, ◌≤◌, Some, None, IsTrue, max};
+ghost use Rattle.std.specs.Prelude.{◌≡◌, ℕ, ◌+◌, ◌-◌, ◌^◌, ◌<◌, ◌≤◌, ◌↔◌, Some, IsTrue, max};
 ghost use Rattle.motion.specs.StoppingDistance.{stopping_distance};
 ghost use Rattle.motion.specs.Speed.{largest_speed, IsLargestSpeed};
-ghost use Rattle.motion.specs.Tester.{TestsAlike};
+ghost use Rattle.motion.specs.Tester.{new_tester, TestAlike};
 
 use crate::tester::Tester;
 
@@ -21,7 +21,7 @@ struct Search {
     ghost from_floor: { floor ≤ low },
     ghost ordered: { low < high },
     ghost to_top: { high ≤ top },
-    ghost fits: { floor < low → stopping_distance tester.rate low ≤ tester.distance },
+    ghost allowed: { floor < low → stopping_distance tester.rate low ≤ tester.distance },
     ghost over: { tester.distance < stopping_distance tester.rate high },
     // the questions that are left can halve the speeds from low to high down to one
     ghost halved: { high ≤ low + 2 ^ (31 - tester.asked) },
@@ -29,6 +29,8 @@ struct Search {
 }
 
 impl Search {
+    ghost use Rattle.motion.specs.Search.{SameSearch};
+
     // How many speeds the answer is one of.
     #[inline(always)]
     fn width(&self) -> u32
@@ -40,10 +42,11 @@ impl Search {
     // Whether the next question may be for any speed between low and high: there is one, and the questions left after it can halve them all.
     #[inline(always)]
     fn is_free(&self) -> bool
-        ensures open { IsTrue result → self.now.low + 1 < self.now.high }
-        ensures halved { IsTrue result → self.now.high ≤ self.now.low + 2 ^ (30 - self.now.tester.asked) }
+        ensures room { IsTrue result → self.now.low + 1 < self.now.high }
+        ensures halved { IsTrue result →
+            self.now.high ≤ self.now.low + 2 ^ (30 - self.now.tester.asked) }
     {
-        self.width() > 1 && self.width() <= 1 << (QUESTIONS - 1 - self.tester.asked())
+        self.width() > 1 && self.width() <= 1 << (QUESTIONS - 1 - self.tester.question_count())
     }
 
     // Asks for a speed between low and high, where the questions left after it can halve either side, and answers whether it is allowed.
@@ -51,11 +54,10 @@ impl Search {
     fn ask(&mut self, speed: u32) -> bool
         requires above { self.old.low < speed }
         requires below { speed < self.old.high }
-        requires from_low { speed ≤ self.old.low + 2 ^ (30 - self.old.tester.asked) }
-        requires to_high { self.old.high ≤ speed + 2 ^ (30 - self.old.tester.asked) }
-        ensures floor { self.new.floor ≡ self.old.floor }
-        ensures top { self.new.top ≡ self.old.top }
-        ensures tests { TestsAlike self.old.tester self.new.tester }
+        requires halved { (speed ≤ self.old.low + 2 ^ (30 - self.old.tester.asked)) ×
+            (self.old.high ≤ speed + 2 ^ (30 - self.old.tester.asked)) }
+        ensures answer { IsTrue result ↔ (self.new.low ≡ speed) }
+        ensures same { SameSearch self.old self.new }
         ensures narrower { self.new.high + self.old.low < self.old.high + self.new.low }
     {
         let allowed = self.tester.allows(speed);
@@ -67,33 +69,31 @@ impl Search {
         allowed
     }
 
-    // Asks where the answer is to be expected, while the next question is free: for the speed above low, for the guess and for the speed
-    // beside it.
+    // Asks for the speed above low, if the next question is free, and answers whether it is allowed.
+    #[inline(always)]
+    fn ask_next(&mut self) -> bool
+        ensures same { SameSearch self.old self.new }
+    {
+        self.is_free() && self.ask(self.low + 1)
+    }
+
+    // Asks where the answer is to be expected: for the speed above low, for the guess and for the speed above that.
     #[inline(always)]
     fn ask_expected(&mut self)
-        ensures floor { self.new.floor ≡ self.old.floor }
-        ensures top { self.new.top ≡ self.old.top }
-        ensures tests { TestsAlike self.old.tester self.new.tester }
+        ensures same { SameSearch self.old self.new }
     {
-        if !self.is_free() || !self.ask(self.low + 1) || !self.is_free() {
-            return;
-        }
-        let guess = self.tester.guess(self.top);
-        if self.ask(guess.clamp(self.low + 1, self.high - 1)) {
-            if self.is_free() {
-                self.ask(self.low + 1);
+        if self.ask_next() && self.is_free() {
+            let guess = self.tester.guess(self.top);
+            if self.ask(guess.clamp(self.low + 1, self.high - 1)) {
+                self.ask_next();
             }
-        } else if self.is_free() {
-            self.ask(self.high - 1);
         }
     }
 
     // Halves the speeds between low and high until none is left.
     #[inline(always)]
     fn halve(&mut self)
-        ensures floor { self.new.floor ≡ self.old.floor }
-        ensures top { self.new.top ≡ self.old.top }
-        ensures tests { TestsAlike self.old.tester self.new.tester }
+        ensures same { SameSearch self.old self.new }
         ensures settled { self.new.high ≡ self.new.low + 1 }
     {
         while self.width() > 1 {
@@ -104,20 +104,21 @@ impl Search {
 
 /// The largest speed up to the top that the tester allows, but at least the floor, and the tester as it is then; speeds are in 1/65,536
 /// microstep a cycle. The first speed asked is the top, and where that is allowed it is the only one.
-#[tactic(auto, using(crate::proofs::Falling::stopping_distance_zero, crate::proofs::Fastest::largest_all, crate::proofs::Fastest::largest_below, crate::proofs::Fastest::largest_found))]
+#[tactic(auto, using(crate::proofs::Fastest::largest_all, crate::proofs::Fastest::largest_below, crate::proofs::Fastest::largest_found))]
 #[inline(always)]
 pub fn largest_speed(mut tester: Tester, floor: u32, top: u32) -> (u32, Tester)
     requires floor { floor < 2 ^ 30 }
     requires top { top < 2 ^ 30 }
-    requires no_first { tester.first ≡ None }
-    requires unasked { tester.asked ≡ 0 }
+    requires unasked { tester ≡ new_tester tester.rate tester.distance }
     ensures is { result.0 ≡ max (largest_speed tester.rate tester.distance top) floor }
     ensures best { floor < result.0 → IsLargestSpeed tester.rate tester.distance top result.0 }
-    ensures most { (speed : ℕ) → result.0 < speed → speed ≤ top → tester.distance < stopping_distance tester.rate speed }
+    ensures most { (speed : ℕ) → result.0 < speed → speed ≤ top →
+        tester.distance < stopping_distance tester.rate speed }
     ensures first { result.1.first ≡ Some top }
     ensures once { stopping_distance tester.rate top ≤ tester.distance → result.1.asked ≡ 1 }
+    ensures alone { top ≤ floor → result.1.asked ≡ 1 }
     ensures few { result.1.asked ≤ 31 }
-    ensures tests { TestsAlike tester result.1 }
+    ensures tests { TestAlike tester result.1 }
 {
     if tester.allows(top) {
         return (top.max(floor), tester);

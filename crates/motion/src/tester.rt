@@ -6,7 +6,8 @@ use crate::rate::Rate;
 use std::marker::Model;
 
 /// Answers whether a gate at a speed can still stop within a distance; it keeps the first speed that it was asked, and counts how many it
-/// was asked. It is not `Copy`, so that none is asked unseen, and no other module sees its rate and its distance. A clause sees all four.
+/// was asked. It is not `Copy`, so that a search cannot ask a copy and hand back the original, and no other module sees its rate and its
+/// distance. A clause sees all four fields.
 #[derive(Drop)]
 pub struct Tester {
     rate: Rate,
@@ -42,8 +43,11 @@ impl Tester {
     pub fn allows(&mut self, speed: u32) -> bool
         requires speed { speed < 2 ^ 30 }
         requires countable { self.old.asked + 1 < 2 ^ 32 }
-        ensures answer { IsTrue result ↔ (stopping_distance self.old.rate speed ≤ self.old.distance) }
-        ensures asked { self.new ≡ with_question self.old speed }
+        ensures answer { IsTrue result ↔
+            (stopping_distance self.old.rate speed ≤ self.old.distance) }
+        ensures counted { self.new ≡ with_question self.old speed }
+
+        // a caller sees no invariant of the rate, and the proof of a search needs this one
         ensures positive { 1 ≤ self.old.rate }
     {
         self.first = self.first.or(Some(speed));
@@ -52,17 +56,16 @@ impl Tester {
     }
 
     /// A speed worth asking where the top is not allowed, by the closed form of the stopping distance; nothing is promised of it. It is
-    /// the answer where that lies no more than two accelerations below the top, as in a move.
-    // `covered` is the stopping distance of `terms` whole accelerations. Up to one more, each unit of speed above them adds one for each of
-    // them and one. What is left to cover then has 32 bits.
+    /// the largest that is allowed where that lies no more than two accelerations below the top, as in a move.
+    // `covered` is the stopping distance of `terms` whole accelerations. From there to the next, each unit of speed adds `terms` + 1. Where
+    // the top is not allowed, what is left to cover has 32 bits.
     #[inline(always)]
     pub fn guess(&self, top: u32) -> u32
         requires { top < 2 ^ 30 }
     {
         let size = self.rate.size;
         let mut terms = top / size;
-        let mut covered = self.rate.stopping_distance(top)
-            - u64::from(terms + 1) * u64::from(top % size);
+        let mut covered = self.rate.stopping_distance(terms * size);
         for _turn in 0..3 {
             if covered <= self.distance {
                 let rest = ((self.distance - covered) & 0xffff_ffff) as u32;
@@ -75,14 +78,14 @@ impl Tester {
     }
 
     /// The first speed that it was asked, if any.
-    pub fn first(&self) -> Option<u32>
+    pub fn first_question(&self) -> Option<u32>
         ensures { result ≡ self.now.first }
     {
         self.first
     }
 
     /// How many speeds it was asked.
-    pub fn asked(&self) -> u32
+    pub fn question_count(&self) -> u32
         ensures { result ≡ self.now.asked }
     {
         self.asked

@@ -18,47 +18,47 @@ fn stopping_distances(rt: HostRuntime) {
 #[test]
 fn tests_speeds(rt: HostRuntime) {
     let mut tester = Tester::new(Rate { size: 16_384 }, 49_152);
-    assert!(rt; tester.first().is_none());
-    assert_eq!(rt; tester.asked(), 0);
+    assert!(rt; tester.first_question().is_none());
+    assert_eq!(rt; tester.question_count(), 0);
     assert!(rt; tester.allows(32_768));
     assert!(rt; !tester.allows(32_769));
     assert!(rt; tester.allows(0));
-    assert_eq!(rt; tester.first(), Some(32_768));
-    assert_eq!(rt; tester.asked(), 3);
+    assert_eq!(rt; tester.first_question(), Some(32_768));
+    assert_eq!(rt; tester.question_count(), 3);
 }
 
-// The largest speed there is, and as a velocity.
-const FAR: u32 = 1_073_741_823;
+// The largest speed there is, and the same as a velocity.
+const FASTEST: u32 = 1_073_741_823;
 
-const FASTEST: i32 = 1_073_741_823;
+const FASTEST_VELOCITY: i32 = 1_073_741_823;
 
 // A search of numbers in range: the speed found, the first speed asked and how many were asked.
 fn search(size: u32, distance: u64, floor: u32, top: u32) -> (u32, Option<u32>, u32) {
     let size = size.clamp(1, 1 << 30);
     let tester = Tester::new(Rate { size }, distance);
-    let (speed, tester) = largest_speed(tester, floor.min(FAR), top.min(FAR));
-    (speed, tester.first(), tester.asked())
+    let (speed, tester) = largest_speed(tester, floor.min(FASTEST), top.min(FASTEST));
+    (speed, tester.first_question(), tester.question_count())
 }
 
 // The rows of `python3 tools/questions.py rows`.
 #[test]
 fn searches(rt: HostRuntime) {
     for (size, distance, floor, top, speed, asked) in [
-        (1_901, 17_515_529_401_685, 0, FAR, 258_057_265, 31),
-        (817, 10_916_795_706_014, 0, FAR, 133_558_732, 31),
+        (1_901, 17_515_529_401_685, 0, FASTEST, 258_057_265, 31),
+        (817, 10_916_795_706_014, 0, FASTEST, 133_558_732, 31),
         (16_384, 49_152, 5, 40_000, 32_768, 4),
         (16_384, 49_152, 5, 32_768, 32_768, 1),
         (16_384, 49_152, 32_768, 40_000, 32_768, 2),
         (16_384, 49_152, 33_000, 40_000, 33_000, 2),
         (16_384, 49_152, 41_000, 40_000, 41_000, 1),
         (16_384, 49_152, 40_000, 40_000, 40_000, 1),
-        (1, 140_737_488_355_327, 0, FAR, 16_777_215, 31),
-        (1, 0, 0, FAR, 0, 30),
-        (1, 0, FAR, FAR, FAR, 1),
-        (1 << 30, 700_000_000, 3, FAR, 700_000_000, 31),
-        (1 << 30, 140_737_488_355_327, 0, FAR, FAR, 1),
-        (1 << 30, 1_073_741_822, 0, FAR, 1_073_741_822, 31),
-        (1 << 30, 1, 0, FAR, 1, 31),
+        (1, 140_737_488_355_327, 0, FASTEST, 16_777_215, 31),
+        (1, 0, 0, FASTEST, 0, 30),
+        (1, 0, FASTEST, FASTEST, FASTEST, 1),
+        (1 << 30, 700_000_000, 3, FASTEST, 700_000_000, 31),
+        (1 << 30, 140_737_488_355_327, 0, FASTEST, FASTEST, 1),
+        (1 << 30, 1_073_741_822, 0, FASTEST, 1_073_741_822, 31),
+        (1 << 30, 1, 0, FASTEST, 1, 31),
         (
             1 << 26,
             134_217_727,
@@ -100,7 +100,7 @@ fn written_out(size: u32, speed: u32) -> u64 {
     sum
 }
 
-// The next velocity by the words of docs/GATE.md, of numbers up to 12.
+// The next velocity by the words of docs/GATE.md, of speeds up to 12.
 fn small_move(v: i32, top: u32, size: u32, distance: i64) -> i64 {
     let speed = v.unsigned_abs();
     let slower = speed.saturating_sub(size);
@@ -180,7 +180,7 @@ impl Rng {
     }
 }
 
-// How many speeds the searches of a move from rest to rest ask: counts those that ask 1, 2, 3, 4 and more.
+// Counts the searches of a move that ask 1, 2, 3, 4 and more speeds: from rest until it arrives, or for 4,000 cycles.
 fn count_move(size: u32, top: u32, distance: u64, counts: &mut [u32; 5]) {
     let rate = Rate {
         size: size.clamp(1, 1 << 30),
@@ -191,8 +191,8 @@ fn count_move(size: u32, top: u32, distance: u64, counts: &mut [u32; 5]) {
         if left == 0 {
             break;
         }
-        let (next, tester) = rate.next_speed(speed, top.min(FAR), left);
-        let at = tester.asked().clamp(1, 5) - 1;
+        let (next, tester) = rate.next_speed(speed, top.min(FASTEST), left);
+        let at = tester.question_count().clamp(1, 5) - 1;
         counts[at as usize] = counts[at as usize].saturating_add(1);
         left = left.saturating_sub(u64::from(next));
         speed = next;
@@ -265,11 +265,14 @@ fn travels_far(rt: HostRuntime) {
     // at the ends of what can be
     let largest = Rate { size: 1 << 30 };
     let farthest = 140_737_488_355_327;
-    assert_eq!(rt; largest.trapezoid(-FASTEST, FAR, -farthest), -FASTEST);
-    assert_eq!(rt; largest.trapezoid(-FASTEST, FAR, farthest), 0);
     assert_eq!(rt;
-        Rate { size: 1 }.trapezoid(-FASTEST, 0, -farthest),
-        1 - FASTEST
+        largest.trapezoid(-FASTEST_VELOCITY, FASTEST, -farthest),
+        -FASTEST_VELOCITY
+    );
+    assert_eq!(rt; largest.trapezoid(-FASTEST_VELOCITY, FASTEST, farthest), 0);
+    assert_eq!(rt;
+        Rate { size: 1 }.trapezoid(-FASTEST_VELOCITY, 0, -farthest),
+        1 - FASTEST_VELOCITY
     );
 }
 

@@ -17,7 +17,7 @@ found c =
     let search = c.halve.new.self in
     let rate : search.tester.rate ≡ c.args.tester.rate = grind (arith, common_steps) in
     let distance : search.tester.distance ≡ c.args.tester.distance = grind (arith, common_steps) in
-    ((λ above. rw (rate, distance) at (search.fits (omega arith))), rw (rate, distance, c.halve.ensures.settled) at search.over)
+    ((λ above. rw (rate, distance) at (search.allowed (omega arith))), rw (rate, distance, c.halve.ensures.settled) at search.over)
 
 pub returns-clause-best : goal.returns-clause-best
 returns-clause-best c above = largest_next _ _ _ _ (omega arith) (omega arith) ((found c).0 above) (found c).1

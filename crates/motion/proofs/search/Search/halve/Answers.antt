@@ -9,10 +9,7 @@ halving asked width w h room =
     let e : 31 - asked ≡ suc (30 - asked) = omega arith in
     ap (λ (k : ℕ). 2 ^ k) e ∙ pow-suc 2 (30 - asked)
 
-pub ask-requires-clause-from_low : goal.ask-requires-clause-from_low
-ask-requires-clause-from_low c =
-    omega (arith, halving c.loop-self.self.tester.asked c.width.result (omega arith) (omega arith) (omega arith))
-
-pub ask-requires-clause-to_high : goal.ask-requires-clause-to_high
-ask-requires-clause-to_high c =
-    omega (arith, halving c.loop-self.self.tester.asked c.width.result (omega arith) (omega arith) (omega arith))
+pub ask-requires-clause-halved : goal.ask-requires-clause-halved
+ask-requires-clause-halved c =
+    let h = halving c.loop-self.self.tester.asked c.width.result (omega arith) (omega arith) (omega arith) in
+    (omega (arith, h), omega (arith, h))

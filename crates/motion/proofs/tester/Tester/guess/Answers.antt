@@ -1,7 +1,6 @@
-use Rattle.std.proofs.Common.{◌≡◌, ℕ, zero, suc, ◌+◌, ◌-◌, ◌*◌, ◌/◌, ◌%◌, ◌<◌, ◌≤◌, sym, ap, ◌∙◌, zero-mul, suc-mul, mod-lt, arith}
-use Rattle.std.proofs.lemmas.Nat.{div-add-mod'}
+use Rattle.std.proofs.Common.{◌≡◌, ℕ, zero, suc, ◌+◌, ◌-◌, ◌*◌, ◌<◌, ◌≤◌, ap, ◌∙◌, zero-mul, suc-mul, arith}
 use Rattle.motion.specs.StoppingDistance.{stopping_distance}
-use Rattle.motion.proofs.Falling.{stopping_distance_zero, stopping_distance_step, stopping_distance_above}
+use Rattle.motion.proofs.Falling.{stopping_distance_zero, stopping_distance_step}
 use Rattle.motion.proofs.tester.Tester.guess.Goals as goal
 
 -- where whole rates cover more than a distance there is one, and without it they cover their sum less
@@ -14,24 +13,6 @@ one_less rate distance (suc n) covered p e h =
     let below : suc n * rate - rate ≡ n * rate = omega (arith, suc-mul n rate) in
     rw m (omega arith, suc-mul n rate, e ∙ stopping_distance_step rate (suc n * rate) p ∙ ap (λ (s : ℕ). suc n * rate + stopping_distance rate s) below)
 
--- what the whole rates of the top cover, by what the top does
-whole_rates : (c : goal.After-from-2)
-    → c.stopping_distance.result ≡ stopping_distance c.self.inside.rate.size (c.args.top / c.self.inside.rate.size * c.self.inside.rate.size) + c.from.result * c.from-2.result
-whole_rates c =
-    let top = c.args.top in
-    let size = c.self.inside.rate.size in
-    let product : c.from.result * c.from-2.result ≡ (top / size + 1) * (top % size) =
-    ap (λ (x : ℕ). x * c.from-2.result) c.from.ensures ∙ ap (λ (x : ℕ). (top / size + 1) * x) c.from-2.ensures
-    in
-    let split : top ≡ top / size * size + top % size = sym (div-add-mod' top size) in
-    omega (arith, stopping_distance_above size top (top / size) (top % size) (omega arith) split (mod-lt top {m = size} (omega arith)))
-
-pub overflow_sub-covered : goal.overflow_sub-covered
-overflow_sub-covered c = omega (arith, whole_rates c)
-
-pub loop-turn-init : goal.loop-turn-init
-loop-turn-init c = (omega arith, omega (arith, div-add-mod' c.args.top c.self.inside.rate.size), omega (arith, whole_rates c))
-
 -- a turn takes one rate off
 turn : (c : goal.After-from-covered)
     → (1 ≤ c.loop-turn.terms)
@@ -40,11 +21,11 @@ turn : (c : goal.After-from-covered)
 turn c =
     one_less c.self.inside.rate.size c.self.inside.distance c.loop-turn.terms c.loop-turn.covered (omega arith) (omega arith) (omega arith)
 
-pub overflow_sub-covered-in-loop-turn : goal.overflow_sub-covered-in-loop-turn
-overflow_sub-covered-in-loop-turn c = omega (arith, turn c)
+pub overflow_sub-covered : goal.overflow_sub-covered
+overflow_sub-covered c = omega (arith, turn c)
 
 pub overflow_sub-terms : goal.overflow_sub-terms
 overflow_sub-terms c = omega (arith, turn c)
 
 pub loop-turn-preserved : goal.loop-turn-preserved
-loop-turn-preserved c = (omega arith, omega (arith, turn c), omega (arith, turn c))
+loop-turn-preserved c = record { terms = omega arith; speed = omega (arith, turn c); covered = omega (arith, turn c) }
