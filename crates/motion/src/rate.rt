@@ -28,7 +28,7 @@ impl Rate {
     }
 
     /// The next speed of a gate that stands, or runs toward a destination that lies the distance ahead, and the tester that the search for
-    /// it asked; `top` is the velocity register, and speeds are in 1/65,536 microstep a cycle.
+    /// it asked; `top` is the velocity register. The distance is in 1/65,536 microstep, speeds are in that a cycle.
     #[inline(always)]
     #[tactic(auto, unfolding(crate::specs::Course::next_speed))]
     pub fn next_speed(self, speed: u32, top: u32, distance: u64) -> (u32, Tester)
@@ -63,7 +63,8 @@ impl Rate {
         speed as i32
     }
 
-    /// The next velocity on the way to a destination at the distance. A gate that can stop within the distance still can after this cycle.
+    /// The next velocity on the way to a destination at the distance, in 1/65,536 microstep; velocities are in that a cycle. A gate that can
+    /// stop within the distance still can after this cycle.
     #[inline(always)]
     pub fn trapezoid(self, v: i32, top: u32, distance: i64) -> i32
         requires speed { unsigned_abs v < 2 ^ 30 }

@@ -69,7 +69,7 @@ impl Search {
         allowed
     }
 
-    // Asks for the speed above low, if the next question is free, and answers whether it is allowed.
+    // Asks for the speed above low, if the next question is free, and answers whether it was asked and is allowed.
     #[inline(always)]
     fn ask_next(&mut self) -> bool
         ensures same { SameSearch self.old self.new }

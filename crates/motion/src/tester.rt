@@ -25,7 +25,7 @@ impl Model for Tester {
 }
 
 impl Tester {
-    /// A tester that was asked nothing.
+    /// A tester that was asked nothing; the distance is in 1/65,536 microstep.
     #[inline(always)]
     pub fn new(rate: Rate, distance: u64) -> Self
         ensures { result ≡ new_tester rate.size distance }
@@ -55,8 +55,8 @@ impl Tester {
         self.rate.stopping_distance(speed) <= self.distance
     }
 
-    /// A speed worth asking where the top is not allowed, by the closed form of the stopping distance; nothing is promised of it. It is
-    /// the largest that is allowed where that lies no more than two accelerations below the top, as in a move.
+    /// A speed worth asking where the top is not allowed, in 1/65,536 microstep a cycle, by the closed form of the stopping distance; nothing
+    /// is promised of it. It is the largest that is allowed where that lies no more than two accelerations below the top, as in a move.
     // `covered` is the stopping distance of `terms` whole accelerations. From there to the next, each unit of speed adds `terms` + 1. Where
     // the top is not allowed, what is left to cover has 32 bits.
     #[inline(always)]
